@@ -20,7 +20,7 @@ pub record ArenaState : Type 0 where
   pub keyed_steps : List KeyedStep
   pub issued : ℕ
   pub next_key : ℕ
-  pub is_ready : Bool
+  pub has_space : Bool
 
 abbrev pub steps : List KeyedStep → List Step
 steps es = map (λ e. e.step) es

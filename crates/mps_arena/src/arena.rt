@@ -57,12 +57,12 @@ impl Arena {
     /// none. Nothing else asks for memory.
     #[inline(always)]
     pub fn reserve_one(&mut self) -> Result<Key, AllocError>
-        ensures ready { OnOk result (IsTrue self.new.is_ready) }
+        ensures space { OnOk result (IsTrue self.new.has_space) }
         ensures key { IfOk result (λ key. key ≡ self.new.next_key) }
         ensures keyed_steps { self.new.keyed_steps ≡ self.old.keyed_steps }
         ensures issued { self.new.issued ≡ self.old.issued }
         ensures next { self.new.next_key ≡ self.old.next_key }
-        ensures succeeds { IsTrue self.old.is_ready → IsOk result }
+        ensures succeeds { IsTrue self.old.has_space → IsOk result }
     {
         self.nodes.reserve(1)?;
         self.index.reserve(1)?;
@@ -73,7 +73,7 @@ impl Arena {
     /// comes with the send that it is matched with: the first of its pair that isn't received.
     #[inline(always)]
     pub fn add(&mut self, role: Role, act: Act, before: Before, source: Option<Key>) -> StepId
-        requires ready { IsTrue self.old.is_ready }
+        requires space { IsTrue self.old.has_space }
         requires role { role < 8 }
         requires peer { HasSmallPeer (effect act) }
         requires source { IsSource self.old.keyed_steps role (effect act) source }
@@ -109,7 +109,7 @@ impl Arena {
         ensures sound { AreSound self.new.keyed_steps }
         // the place is the next to be used again, and what was reserved stays so
         ensures key { self.new.next_key ≡ key }
-        ensures ready { IsTrue self.old.is_ready → IsTrue self.new.is_ready }
+        ensures space { IsTrue self.old.has_space → IsTrue self.new.has_space }
     {
         let node = part(&mut self.nodes, key);
         self.ends.part(&node);
@@ -244,7 +244,7 @@ impl Arena {
     pub fn set_mark(&mut self, key: Key, marked: bool)
         ensures keyed_steps { self.new.keyed_steps ≡ map (with_mark key marked) self.old.keyed_steps }
         ensures issued { self.new.issued ≡ self.old.issued }
-        ensures ready { self.new.is_ready ≡ self.old.is_ready }
+        ensures space { self.new.has_space ≡ self.old.has_space }
         ensures key { self.new.next_key ≡ self.old.next_key }
     {
         set_marked(&mut self.nodes, key, marked);

@@ -6,7 +6,7 @@ use Rattle.std.specs.Fmt.{decimal, signed_decimal}
 use Rattle.std.specs.Str.Parse.{AllDigits, digits_value}
 use Rattle.std.proofs.lemmas.Str.Parse.{IsNumeralModel, numerals_by_value, tells_digits}
 use Rattle.std.proofs.lemmas.Fmt.{decimal_is_IsNumeral, decimal_nonempty, decimal_digit, first_decimal, decimal-digits_value}
-use Rattle.mps_base.specs.Appends.{Appends}
+use Rattle.mps_base.specs.Appends.{AppendsSuch}
 use Rattle.mps_base.specs.Numbers.{IsNumberText, IsIntText}
 
 own : IsNumeralModel (AllDigits 10) (digits_value 10)
@@ -33,5 +33,5 @@ pub int_is_signed : (bytes : List ℕ) (z : ℤ) → IsIntText bytes z → bytes
 int_is_signed bytes z h = grind (arith, number_is_decimal)
 
 -- what a call appends that fails or appends a text
-pub appends_ok : {T E : Type 0} (P : List ℕ → Type 0) (old new text : List ℕ) (r : Result T E) → new ≡ (if is_ok r then old ++ text else old) → P text → OnOk r (Appends P old new)
+pub appends_ok : {T E : Type 0} (P : List ℕ → Type 0) (old new text : List ℕ) (r : Result T E) → new ≡ (if is_ok r then old ++ text else old) → P text → OnOk r (AppendsSuch P old new)
 appends_ok P old new text r e p = grind arith

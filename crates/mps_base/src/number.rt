@@ -1,7 +1,7 @@
 //! Whole numbers as text.
 ghost use Rattle.std.specs.Prelude.{◌≡◌, ℕ, ◌<◌, ◌≤◌, ◌^◌, ℤ, List, length, IfSome, IfNone, OnOk, OnErr};
 ghost use Rattle.std.specs.Str.Parse.{AllDigits, digits_value};
-ghost use Rattle.mps_base.specs.Appends.{Appends};
+ghost use Rattle.mps_base.specs.Appends.{AppendsSuch};
 ghost use Rattle.mps_base.specs.Numbers.{IsNumberText, IsIntText};
 
 use itoa::Buffer;
@@ -69,7 +69,7 @@ fn read_many(digits: &[u8]) -> Option<u64>
 #[tactic(auto, using(crate::proofs::Numbers::decimal_is_number))]
 #[inline(always)]
 pub fn write_number(n: u64, out: &mut Vec<u8>) -> Result<(), AllocError>
-    ensures ok { OnOk result (Appends (λ text. IsNumberText text n) out.old.items out.new.items) }
+    ensures ok { OnOk result (AppendsSuch (λ text. IsNumberText text n) out.old.items out.new.items) }
     ensures err { OnErr result (out.new.items ≡ out.old.items) }
 {
     let mut digits = Buffer::new();
@@ -95,7 +95,7 @@ pub(crate) fn read_int(bytes: &[u8]) -> Option<i64>
 
 // Writes an integer at the end.
 pub(crate) fn write_int(n: i64, out: &mut Vec<u8>) -> Result<(), AllocError>
-    ensures ok { OnOk result (Appends (λ text. IsIntText text n) out.old.items out.new.items) }
+    ensures ok { OnOk result (AppendsSuch (λ text. IsIntText text n) out.old.items out.new.items) }
     ensures err { OnErr result (out.new.items ≡ out.old.items) }
 {
     let mut text = Buffer::new();

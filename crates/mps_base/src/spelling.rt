@@ -2,7 +2,7 @@
 ghost use Rattle.std.specs.Prelude.{◌≡◌, ◌≢◌, ℕ, ◌<◌, Bool, List, length, IfOk, IfSome, IfNone, OnOk, OnErr, IsErrOf};
 ghost use Rattle.std.specs.Prelude.{◌++◌};
 ghost use Rattle.std.specs.List.{AllByRecursion};
-ghost use Rattle.mps_base.specs.Appends.{Appends};
+ghost use Rattle.mps_base.specs.Appends.{AppendsSuch};
 ghost use Rattle.mps_base.specs.Names.{IsName};
 ghost use Rattle.mps_base.specs.Texts.{IsText};
 ghost use Rattle.mps_base.specs.Values.{SpellsValue, IsShown, bool_word, quoted};
@@ -49,7 +49,7 @@ impl Value {
     /// Writes the value at the end.
     pub fn write(&self, out: &mut Vec<u8>) -> Result<(), AllocError>
         ensures ok { OnOk result
-            (Appends (λ text. SpellsValue text self.now) out.old.items out.new.items) }
+            (AppendsSuch (λ text. SpellsValue text self.now) out.old.items out.new.items) }
         ensures err { OnErr result (out.new.items ≡ out.old.items) }
     {
         match self {

@@ -1,5 +1,5 @@
-//! The rule of a cell's table, and what each step tells the seat that takes it. Rule, step, seat and slot are words of
-//! atomic_table here: a step is an operation on the table, and the slot holds the room.
+//! The rule of a cell's table, and what each step tells the seat that takes it. Rule, table, key, step, seat and slot
+//! are words of atomic_table here: a step is an operation on the table, and the slot holds the room.
 
 use crate::origin::Origin;
 use crate::view::SeatView;

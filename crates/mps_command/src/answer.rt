@@ -42,7 +42,7 @@ pub enum Refusal {
     Needed { by: StepId },
     #[error("no mark of this name survives")]
     NoMark,
-    #[error("no more numbers are given out")]
+    #[error("no number or no entry is left")]
     Full,
     #[error("out of memory")]
     Memory,

@@ -2,7 +2,7 @@
 ghost use Rattle.std.specs.Prelude.{◌≡◌, ◌<◌, ◌≤◌, ◌≢◌, ℕ, [], List, Some, None, All, length, slice_get, slice_set};
 ghost use Rattle.std.specs.Prelude.{IfOk, IfErr, OnOk, OnErr};
 ghost use Rattle.std.specs.Io.{StartsWith};
-ghost use Rattle.mps_base.specs.Appends.{Appends};
+ghost use Rattle.mps_base.specs.Appends.{AppendsSuch};
 ghost use Rattle.mps_line.specs.Replies.{SpellsReply};
 ghost use Rattle.mps_line.specs.declared.write_replies.Reply.TheVariants.{NoRole as Nobody};
 ghost use Rattle.mps_machine.specs.Machine.{initial};
@@ -139,7 +139,7 @@ impl Embedded {
     /// Writes the answer to the newest line at the end, without a line break. It may be asked for as often as wanted,
     /// so it isn't lost where memory runs out, though a part of it may stand there then.
     pub fn write_answer(&self, out: &mut Vec<u8>) -> Result<(), AllocError>
-        ensures ok { OnOk result (Appends (λ text. SpellsReply text self.now.reply) out.old.items out.new.items) }
+        ensures ok { OnOk result (AppendsSuch (λ text. SpellsReply text self.now.reply) out.old.items out.new.items) }
         ensures err { OnErr result (StartsWith out.new.items out.old.items) }
     {
         write_outcome(&self.solo, &self.outcome, out)

@@ -1,4 +1,5 @@
-//! A value that one thread at a time has. Whoever has it sees it as it was at first, and gives it back so.
+//! A value that one thread at a time has. Whoever has it sees it as it was at first, and gives it back so. Rule, table,
+//! key, seat and slot are words of atomic_table here.
 ghost use Rattle.std.specs.Prelude.{◌≡◌};
 ghost use Rattle.mps_hub.specs.Private.Lock.{HasOut};
 

@@ -11,33 +11,33 @@ use Rattle.mps_line.specs.JournalLines.{SpellsJournalLine}
 use Rattle.mps_keeper.specs.Numbering.{CountsUp}
 use Rattle.mps_keeper.specs.declared.recorder.Recorder.{Ghosts as RecorderGhosts}
 
-module _ {K C : Type 0} (recorder : RecorderGhosts K) (caller : CallerGhosts C) (keeper : K) (c : C) (command : Command)
-    (keeper' : K) (d : C) where
+module _ {K C : Type 0} (recorder : RecorderGhosts K) (caller : CallerGhosts C) (before : K) (c : C) (command : Command)
+    (after : K) (d : C) where
   -- the command's line was added, with its number if it had one
   pub record HasAdded : Type 0 where
     pub number : Option ℕ
     pub numbered : CountsUp (caller.last c) (number ∷ []) (caller.last d)
     pub line : List ℕ
     pub spelled : SpellsJournalLine (caller.names c) line (caller.role c) number command
-    pub added : Appends (recorder.taken keeper) (recorder.taken keeper') (ended line)
+    pub added : Appends (recorder.taken before) (recorder.taken after) (ended line)
 
   -- nothing was added, and the last number stays
   pub record IsQuiet : Type 0 where
     pub last_stays : caller.last d ≡ caller.last c
-    pub nothing : Appends (recorder.taken keeper) (recorder.taken keeper') []
+    pub nothing : Appends (recorder.taken before) (recorder.taken after) []
 
   -- what is known by whether the command was accepted
   abbrev pub IsSettled : Bool → Type 0
   IsSettled true = HasAdded
   IsSettled false = IsQuiet
 
-  -- One call of the caller. A keeper that records lines has added the line of what was accepted, unless lines were
+  -- One call of the caller. A recorder that records lines has added the line of what was accepted, unless lines were
   -- lost; after that it takes nothing; what it had it still has; and one that records none is as before.
   pub record IsRecorded (answer : Answer) : Type 0 where
     pub call : caller.calls c command answer d
-    pub same : recorder.records keeper' ≡ recorder.records keeper
-    pub once_whole : recorder.whole keeper' ≡ true → recorder.whole keeper ≡ true
-    pub settled : recorder.records keeper ≡ true → recorder.whole keeper' ≡ true → IsSettled (is_accepted answer)
-    pub over : recorder.whole keeper ≡ false → Appends (recorder.taken keeper) (recorder.taken keeper') []
-    pub more : TookMore (recorder.taken keeper) (recorder.taken keeper')
-    pub idle : recorder.records keeper ≡ false → keeper' ≡ keeper
+    pub same : recorder.records after ≡ recorder.records before
+    pub once_whole : recorder.whole after ≡ true → recorder.whole before ≡ true
+    pub settled : recorder.records before ≡ true → recorder.whole after ≡ true → IsSettled (is_accepted answer)
+    pub over : recorder.whole before ≡ false → Appends (recorder.taken before) (recorder.taken after) []
+    pub more : TookMore (recorder.taken before) (recorder.taken after)
+    pub idle : recorder.records before ≡ false → after ≡ before

@@ -127,13 +127,13 @@ impl<W: Sink> Recorder for Book<W> {
         self.whole
     }
 
-    fn add(&mut self, number: u64, line: &[u8]) {
-        if self.lines.checked_add(1) != Some(number) || self.append(line, number).is_err() {
+    fn add(&mut self, nth: u64, line: &[u8]) {
+        if self.lines.checked_add(1) != Some(nth) || self.append(line, nth).is_err() {
             self.lose();
         }
     }
 
-    fn settle(&mut self, _number: u64) {}
+    fn settle(&mut self, _lines: u64) {}
 
     fn lose(&mut self) {
         self.whole = false;

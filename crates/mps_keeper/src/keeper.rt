@@ -38,19 +38,19 @@ struct Waiting {
 }
 
 impl Waiting {
-    // Adds the line of that number, which has to be the next one.
-    fn add(&mut self, number: u64, line: &[u8])
+    // Adds the nth line, from 1, which has to be the next one.
+    fn add(&mut self, nth: u64, line: &[u8])
         ensures once { self.new.whole ≡ true → self.old.whole ≡ true }
-        ensures number { self.new.whole ≡ true → number ≡ self.old.lines + 1 }
-        ensures lines { self.new.whole ≡ true → self.new.lines ≡ number }
+        ensures next { self.new.whole ≡ true → nth ≡ self.old.lines + 1 }
+        ensures lines { self.new.whole ≡ true → self.new.lines ≡ nth }
         ensures text { self.new.whole ≡ true → self.new.text.items ≡ self.old.text.items ++ line.now }
         ensures lost { self.new.whole ≡ false → self.new.text.items ≡ self.old.text.items }
     {
         if self.whole
-            && self.lines.checked_add(1) == Some(number)
+            && self.lines.checked_add(1) == Some(nth)
             && self.text.extend_from_slice(line).is_ok()
         {
-            self.lines = number;
+            self.lines = nth;
         } else {
             self.whole = false;
         }
@@ -64,7 +64,7 @@ struct Writing<W: Sink> {
     text: Vec<u8>,
 }
 
-/// The file of a session's journal, one for all of its connections. Lines gather in the order of their numbers, and one
+/// The file of a session's journal, one for all of its connections. Lines gather in the order of their entries, and one
 /// connection writes all that gathered, and syncs them where that is asked for, for all that wait.
 #[derive(Drop)]
 pub struct Keeper<W: Sink, D> {
@@ -113,8 +113,8 @@ impl<W: Sink, D> Keeper<W, D> {
     }
 
     // Whether so many lines are recorded, and none is lost.
-    fn has_recorded(&self, number: u64) -> bool {
-        !self.is_broken() && self.recorded.load(Ordering::SeqCst) >= number
+    fn has_recorded(&self, lines: u64) -> bool {
+        !self.is_broken() && self.recorded.load(Ordering::SeqCst) >= lines
     }
 
     // Gives up the line that is next, and so all after it.
@@ -126,21 +126,21 @@ impl<W: Sink, D> Keeper<W, D> {
         self.came.notify_all();
     }
 
-    // Adds the line of that number to those that wait, once those before it came.
-    fn gather<R: Wait>(&self, rt: &R, number: u64, line: &[u8]) {
+    // Adds the nth line to those that wait, once those before it came.
+    fn gather<R: Wait>(&self, rt: &R, nth: u64, line: &[u8]) {
         let mut waiting = self.came.wait_while(rt, self.waiting.lock(rt), |w| {
-            w.whole && w.lines.saturating_add(1) < number
+            w.whole && w.lines.saturating_add(1) < nth
         });
-        waiting.add(number, line);
+        waiting.add(nth, line);
         drop(waiting);
         self.came.notify_all();
     }
 
     // Waits until so many lines came.
-    fn reach<R: Wait>(&self, rt: &R, number: u64) {
+    fn reach<R: Wait>(&self, rt: &R, lines: u64) {
         let waiting = self
             .came
-            .wait_while(rt, self.waiting.lock(rt), |w| w.whole && w.lines < number);
+            .wait_while(rt, self.waiting.lock(rt), |w| w.whole && w.lines < lines);
         drop(waiting);
     }
 
@@ -168,16 +168,16 @@ impl<W: Sink, D: Disk> Keeper<W, D> {
 
     // Has the lines recorded that wait, unless they are by then. Says whether so many are. Nothing is written after a
     // failure, and nothing synced, since the next sync may succeed although lines were lost.
-    fn flush<R: Wait>(&self, rt: &R, number: u64) -> bool {
-        if self.has_recorded(number) {
+    fn flush<R: Wait>(&self, rt: &R, count: u64) -> bool {
+        if self.has_recorded(count) {
             return true;
         }
         let mut writing = self.writing.lock(rt);
-        if self.has_recorded(number) {
+        if self.has_recorded(count) {
             return true;
         }
         let recorded = match self.hand_over(rt, &mut writing.text) {
-            Some(lines) if writing.book.is_whole() && lines >= number => {
+            Some(lines) if writing.book.is_whole() && lines >= count => {
                 self.write(&mut writing, lines).then_some(lines)
             }
             _ => None,
@@ -236,25 +236,25 @@ impl<'k, R: Wait, W: Sink, D: Disk> Recorder for Hold<'k, R, W, D> {
         self.whole
     }
 
-    fn add(&mut self, number: u64, line: &[u8]) {
+    fn add(&mut self, nth: u64, line: &[u8]) {
         let Some(keeper) = self.keeper else {
             return;
         };
-        keeper.gather(self.rt, number, line);
-        if !keeper.flush(self.rt, number) {
+        keeper.gather(self.rt, nth, line);
+        if !keeper.flush(self.rt, nth) {
             self.whole = false;
         }
     }
 
-    fn settle(&mut self, number: u64) {
+    fn settle(&mut self, lines: u64) {
         let Some(keeper) = self.keeper else {
             return;
         };
-        if keeper.has_recorded(number) {
+        if keeper.has_recorded(lines) {
             return;
         }
-        keeper.reach(self.rt, number);
-        if !keeper.flush(self.rt, number) {
+        keeper.reach(self.rt, lines);
+        if !keeper.flush(self.rt, lines) {
             self.whole = false;
         }
     }

@@ -76,11 +76,11 @@ impl<K: Recorder, C: Recordable> Recorded<K, C> {
             → Appends (K.taken self.old.recorder) (K.taken self.new.recorder) [] }
         ensures more { TookMore (K.taken self.old.recorder) (K.taken self.new.recorder) }
     {
-        let number = self.inner.seen();
+        let shown = self.inner.seen();
         if !accepted {
-            self.recorder.settle(number);
+            self.recorder.settle(shown);
         } else if put {
-            self.recorder.add(number, self.line.as_slice());
+            self.recorder.add(shown, self.line.as_slice());
         } else {
             self.recorder.lose();
         }

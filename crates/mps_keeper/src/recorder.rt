@@ -26,9 +26,9 @@ pub trait Recorder {
     fn is_whole(&self) -> bool
         ensures { result ≡ whole self.now };
 
-    /// Records the line of the journal's entry of that number, counted from 1, after those before it, which no clause
-    /// says. It comes with its LF. Once lines were lost nothing more is taken.
-    fn add(&mut self, number: u64, line: &[u8])
+    /// Records the line of the journal's nth entry, from 1, after those before it, which no clause says. It comes with
+    /// its LF. Once lines were lost nothing more is taken.
+    fn add(&mut self, nth: u64, line: &[u8])
         ensures same { records self.new ≡ records self.old }
         ensures once { whole self.new ≡ true → whole self.old ≡ true }
         ensures added { whole self.new ≡ true → Appends (taken self.old) (taken self.new) line.now }
@@ -36,7 +36,7 @@ pub trait Recorder {
         ensures more { TookMore (taken self.old) (taken self.new) };
 
     /// Waits until so many lines are recorded.
-    fn settle(&mut self, number: u64)
+    fn settle(&mut self, lines: u64)
         ensures same { records self.new ≡ records self.old }
         ensures once { whole self.new ≡ true → whole self.old ≡ true }
         ensures settled { Appends (taken self.old) (taken self.new) [] }
@@ -60,7 +60,7 @@ pub trait Recordable: Caller {
     fn position(&self, number: u64) -> Position
         ensures { IsPosition (Self.last self.now) number result };
 
-    /// How many entries its last call showed. Of an accepted command it is the entry's number, counted from 1.
+    /// How many entries its last call showed. Where that was accepted its own entry is the last of them.
     /// Unproved: no clause says so.
     fn seen(&self) -> u64;
 }

@@ -3,7 +3,7 @@ use Rattle.std.proofs.Common.{arith, ◌≡◌, ◌≢◌, ℕ, List, [], ◌∷
 use Rattle.std.specs.Prelude.{Option, None, Result, Ok, Err, OnOk, IsTrue}
 use Rattle.mps_base.specs.Names.{is_name_byte}
 use Rattle.std.specs.List.{AllByRecursion}
-use Rattle.mps_base.specs.Appends.{Appends}
+use Rattle.mps_base.specs.Appends.{AppendsSuch}
 use Rattle.mps_base.specs.RoleLists.{AreDistinct}
 use Rattle.mps_base.specs.Spaced.{spaced}
 use Rattle.mps_base.specs.Values.{IsShown}
@@ -102,7 +102,7 @@ asks_as_well names bytes first rest e some role m n c d h k =
 
 -- ---- what is written
 
-pub numbered_written : {T E : Type 0} (names : List (List ℕ)) (r : Result T E) (old mid pushed new : List ℕ) (n : ℕ) (command : Command) → MayHaveNumber command → Appends (λ text. SpellsNumber text n) old mid → pushed ≡ mid ++ 32 ∷ [] → OnOk r (Appends (λ text. SpellsCommand names text command) pushed new) → OnOk r (Appends (λ text. SpellsNumbered names text (Some n) command) old new)
+pub numbered_written : {T E : Type 0} (names : List (List ℕ)) (r : Result T E) (old mid pushed new : List ℕ) (n : ℕ) (command : Command) → MayHaveNumber command → AppendsSuch (λ text. SpellsNumber text n) old mid → pushed ≡ mid ++ 32 ∷ [] → OnOk r (AppendsSuch (λ text. SpellsCommand names text command) pushed new) → OnOk r (AppendsSuch (λ text. SpellsNumbered names text (Some n) command) old new)
 numbered_written names (Err e) old mid pushed new n command may a p b = tt
 numbered_written names (Ok x) old mid pushed new n command may a p b = (
   a.0 ++ 32 ∷ b.0,
@@ -111,7 +111,7 @@ numbered_written names (Ok x) old mid pushed new n command may a p b = (
 )
 
 -- the name of the role, a space and what is written after them
-pub role_written : {T E : Type 0} (names : List (List ℕ)) (r : Result T E) (old mid pushed new : List ℕ) (role : ℕ) (n : Option ℕ) (command : Command) → MayHaveNumber command → Appends (λ text. SpellsRole names text role) old mid → pushed ≡ mid ++ 32 ∷ [] → OnOk r (Appends (λ text. SpellsNumbered names text n command) pushed new) → OnOk r (Appends (λ text. SpellsJournalLine names text role n command) old new)
+pub role_written : {T E : Type 0} (names : List (List ℕ)) (r : Result T E) (old mid pushed new : List ℕ) (role : ℕ) (n : Option ℕ) (command : Command) → MayHaveNumber command → AppendsSuch (λ text. SpellsRole names text role) old mid → pushed ≡ mid ++ 32 ∷ [] → OnOk r (AppendsSuch (λ text. SpellsNumbered names text n command) pushed new) → OnOk r (AppendsSuch (λ text. SpellsJournalLine names text role n command) old new)
 role_written names (Err e) old mid pushed new role n command asks a p b = tt
 role_written names (Ok x) old mid pushed new role n command asks a p b = (
   a.0 ++ 32 ∷ b.0,

@@ -1,7 +1,7 @@
 //! The lines of a journal that is kept in a file.
 ghost use Rattle.std.specs.Prelude.{◌≡◌, ℕ, Option, IfOk, OnOk, OnErr, IsErrOf, IsTrue, ◌↔◌};
 ghost use Rattle.std.specs.Io.{StartsWith};
-ghost use Rattle.mps_base.specs.Appends.{Appends};
+ghost use Rattle.mps_base.specs.Appends.{AppendsSuch};
 ghost use Rattle.mps_command.specs.declared.command.Command.{Command as Asked};
 ghost use Rattle.mps_line.specs.JournalLines.{SpellsJournalLine, CanBeWritten};
 ghost use Rattle.mps_line.specs.Commands.{role_named, SpellsNumbered, MayHaveNumber, NamesRolesOf};
@@ -61,7 +61,7 @@ pub fn write_journal_line(
     out: &mut Vec<u8>,
 ) -> Result<(), AllocError>
     requires { CanBeWritten roles.now role command.now }
-    ensures ok { OnOk result (Appends
+    ensures ok { OnOk result (AppendsSuch
         (λ text. SpellsJournalLine roles.now text role number command.now) out.old.items out.new.items) }
     ensures err { OnErr result (out.new.items ≡ out.old.items) }
 {
@@ -82,7 +82,7 @@ fn write_parts(
     out: &mut Vec<u8>,
 ) -> Result<(), AllocError>
     requires { CanBeWritten roles.now role command.now }
-    ensures ok { OnOk result (Appends
+    ensures ok { OnOk result (AppendsSuch
         (λ text. SpellsJournalLine roles.now text role number command.now) out.old.items out.new.items) }
     ensures err { OnErr result (StartsWith out.new.items out.old.items) }
 {
@@ -100,7 +100,7 @@ fn write_numbered(
 ) -> Result<(), AllocError>
     requires named { NamesRolesOf roles.now command.now }
     requires asks { MayHaveNumber command.now }
-    ensures ok { OnOk result (Appends
+    ensures ok { OnOk result (AppendsSuch
         (λ text. SpellsNumbered roles.now text number command.now) out.old.items out.new.items) }
     ensures err { OnErr result (StartsWith out.new.items out.old.items) }
 {

@@ -1,7 +1,7 @@
 //! The parts of a line. The contracts are of its tokens (`specs/Tokens.antt`).
 ghost use Rattle.std.specs.Prelude.{◌≡◌, ◌≢◌, ℕ, List, [], ◌∷◌, IfSome, IfNone, OnOk, OnErr, ◌<◌, All, length};
 ghost use Rattle.std.specs.Prelude.{slice_index, take};
-ghost use Rattle.mps_base.specs.Appends.{Appends};
+ghost use Rattle.mps_base.specs.Appends.{AppendsSuch};
 ghost use Rattle.mps_base.specs.Spaced.{spaced};
 ghost use Rattle.mps_line.specs.Tokens.{RoleAt, Called, Number, SpellsRole, SpellsName, SpellsNumber, SpellsLine};
 ghost use Rattle.mps_line.specs.Private.Tokens.{HasNoSpace, BeginsWith};
@@ -98,7 +98,7 @@ pub(crate) fn split_number(bytes: &[u8]) -> Option<(u64, &[u8])>
 pub(crate) fn write_role(roles: &Roles, role: Role, out: &mut Vec<u8>) -> Result<(), AllocError>
     requires { role < length roles.now }
     ensures ok { OnOk result
-        (Appends (λ text. SpellsRole roles.now text role) out.old.items out.new.items) }
+        (AppendsSuch (λ text. SpellsRole roles.now text role) out.old.items out.new.items) }
     ensures err { OnErr result (out.new.items ≡ out.old.items) }
 {
     out.extend_from_slice(roles.name(role).as_bytes())
@@ -107,7 +107,7 @@ pub(crate) fn write_role(roles: &Roles, role: Role, out: &mut Vec<u8>) -> Result
 // Writes the bytes of the name. Its contract is of the token: they are a name's.
 pub(crate) fn write_name(name: &Name, out: &mut Vec<u8>) -> Result<(), AllocError>
     ensures ok { OnOk result
-        (Appends (λ text. SpellsName text name.now) out.old.items out.new.items) }
+        (AppendsSuch (λ text. SpellsName text name.now) out.old.items out.new.items) }
     ensures err { OnErr result (out.new.items ≡ out.old.items) }
 {
     out.extend_from_slice(name.as_bytes())
@@ -116,7 +116,7 @@ pub(crate) fn write_name(name: &Name, out: &mut Vec<u8>) -> Result<(), AllocErro
 // Writes the number of the step.
 pub(crate) fn write_step(id: StepId, out: &mut Vec<u8>) -> Result<(), AllocError>
     ensures ok { OnOk result
-        (Appends (λ text. SpellsNumber text id) out.old.items out.new.items) }
+        (AppendsSuch (λ text. SpellsNumber text id) out.old.items out.new.items) }
     ensures err { OnErr result (out.new.items ≡ out.old.items) }
 {
     write_count(id.number(), out)
@@ -125,7 +125,7 @@ pub(crate) fn write_step(id: StepId, out: &mut Vec<u8>) -> Result<(), AllocError
 // Writes the number, as `write_number` does. Its contract is of the token: a number below 2^64.
 pub(crate) fn write_count(n: u64, out: &mut Vec<u8>) -> Result<(), AllocError>
     ensures ok { OnOk result
-        (Appends (λ text. SpellsNumber text n) out.old.items out.new.items) }
+        (AppendsSuch (λ text. SpellsNumber text n) out.old.items out.new.items) }
     ensures err { OnErr result (out.new.items ≡ out.old.items) }
 {
     write_number(n, out)

@@ -1,7 +1,7 @@
 //! How commands are written.
 ghost use Rattle.std.specs.Prelude.{◌≡◌, OnOk, OnErr, IsTrue, ◌↔◌};
 ghost use Rattle.std.specs.Io.{StartsWith};
-ghost use Rattle.mps_base.specs.Appends.{Appends};
+ghost use Rattle.mps_base.specs.Appends.{AppendsSuch};
 ghost use Rattle.mps_command.specs.declared.command.Command.TheVariants as commands;
 ghost use Rattle.mps_line.specs.Tokens.{SpellsLine};
 ghost use Rattle.mps_line.specs.Commands.{verb_word, verb_of, arguments, SpellsCommand, NamesRolesOf};
@@ -16,7 +16,7 @@ use std::alloc::AllocError;
 /// Writes the command at the end, without a line break.
 pub fn write_command(roles: &Roles, command: &Command, out: &mut Vec<u8>) -> Result<(), AllocError>
     requires known { NamesRolesOf roles.now command.now }
-    ensures ok { OnOk result (Appends
+    ensures ok { OnOk result (AppendsSuch
         (λ text. SpellsCommand roles.now text command.now) out.old.items out.new.items) }
     ensures err { OnErr result (out.new.items ≡ out.old.items) }
 {
@@ -31,7 +31,7 @@ pub fn write_command(roles: &Roles, command: &Command, out: &mut Vec<u8>) -> Res
 // Writes the command, or a part of it.
 fn write_parts(roles: &Roles, command: &Command, out: &mut Vec<u8>) -> Result<(), AllocError>
     requires known { NamesRolesOf roles.now command.now }
-    ensures ok { OnOk result (Appends
+    ensures ok { OnOk result (AppendsSuch
         (λ text. SpellsCommand roles.now text command.now) out.old.items out.new.items) }
     ensures err { OnErr result (StartsWith out.new.items out.old.items) }
 {
@@ -46,7 +46,7 @@ fn write_parts(roles: &Roles, command: &Command, out: &mut Vec<u8>) -> Result<()
 // Writes what stands after the verb, or a part of it.
 fn write_arguments(roles: &Roles, command: &Command, out: &mut Vec<u8>) -> Result<(), AllocError>
     requires known { NamesRolesOf roles.now command.now }
-    ensures ok { OnOk result (Appends
+    ensures ok { OnOk result (AppendsSuch
         (λ text. SpellsLine roles.now text (arguments command.now)) out.old.items out.new.items) }
     ensures err { OnErr result (StartsWith out.new.items out.old.items) }
 {
@@ -63,7 +63,7 @@ fn write_arguments(roles: &Roles, command: &Command, out: &mut Vec<u8>) -> Resul
 // Writes what stands after the verb of the step that a role wants to take, or a part of it.
 fn write_forward(roles: &Roles, step: &Forward, out: &mut Vec<u8>) -> Result<(), AllocError>
     requires known { NamesRolesOf roles.now (commands.Forward step.now) }
-    ensures ok { OnOk result (Appends
+    ensures ok { OnOk result (AppendsSuch
         (λ text. SpellsLine roles.now text (arguments (commands.Forward step.now)))
         out.old.items out.new.items) }
     ensures err { OnErr result (StartsWith out.new.items out.old.items) }

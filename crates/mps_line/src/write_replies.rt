@@ -1,7 +1,7 @@
 //! The lines that answer others.
 ghost use Rattle.std.specs.Prelude.{◌≡◌, ℕ, List, [], ◌∷◌, ◌++◌, map, OnOk, OnErr};
 ghost use Rattle.std.specs.Io.{StartsWith};
-ghost use Rattle.mps_base.specs.Appends.{Appends};
+ghost use Rattle.mps_base.specs.Appends.{AppendsSuch};
 ghost use Rattle.mps_command.specs.declared.answer.Answer.TheVariants.{Refused};
 ghost use Rattle.mps_command.specs.declared.answer.Refusal.TheVariants.{Violation as Violates};
 ghost use Rattle.mps_line.specs.Tokens.{Token, Number, SpellsToken, SpellsLine};
@@ -52,7 +52,7 @@ impl Reply {
     /// Writes the reply at the end, without a line break.
     pub fn write(&self, out: &mut Vec<u8>) -> Result<(), AllocError>
         ensures ok { OnOk result
-            (Appends (λ text. SpellsReply text self.now) out.old.items out.new.items) }
+            (AppendsSuch (λ text. SpellsReply text self.now) out.old.items out.new.items) }
         ensures err { OnErr result (out.new.items ≡ out.old.items) }
     {
         let before = out.len();
@@ -66,7 +66,7 @@ impl Reply {
     // Writes the reply, or a part of it.
     fn write_parts(&self, out: &mut Vec<u8>) -> Result<(), AllocError>
         ensures ok { OnOk result
-            (Appends (λ text. SpellsReply text self.now) out.old.items out.new.items) }
+            (AppendsSuch (λ text. SpellsReply text self.now) out.old.items out.new.items) }
         ensures err { OnErr result (StartsWith out.new.items out.old.items) }
     {
         match self {
@@ -84,7 +84,7 @@ impl Reply {
 /// Writes that a line is unreadable, at the end, without a line break.
 pub fn write_bad_line(out: &mut Vec<u8>) -> Result<(), AllocError>
     ensures ok { OnOk result
-        (Appends (λ text. SpellsReply text BadLine) out.old.items out.new.items) }
+        (AppendsSuch (λ text. SpellsReply text BadLine) out.old.items out.new.items) }
     ensures err { OnErr result (out.new.items ≡ out.old.items) }
 {
     out.extend_from_slice(b"refused line")
@@ -92,7 +92,7 @@ pub fn write_bad_line(out: &mut Vec<u8>) -> Result<(), AllocError>
 
 // Writes the session's number and the role's name, or a part of it.
 fn write_joined(session: u64, name: &Name, out: &mut Vec<u8>) -> Result<(), AllocError>
-    ensures ok { OnOk result (Appends
+    ensures ok { OnOk result (AppendsSuch
         (λ text. SpellsReply text (Joined session name.now)) out.old.items out.new.items) }
     ensures err { OnErr result (StartsWith out.new.items out.old.items) }
 {
@@ -105,7 +105,7 @@ fn write_joined(session: u64, name: &Name, out: &mut Vec<u8>) -> Result<(), Allo
 /// Writes the answer at the end, without a line break. Where memory runs out, a part of it may stand there.
 #[inline(always)]
 pub fn write_answer(answer: &Answer, out: &mut Vec<u8>) -> Result<(), AllocError>
-    ensures ok { OnOk result (Appends
+    ensures ok { OnOk result (AppendsSuch
         (λ text. SpellsReply text (Answered answer.now)) out.old.items out.new.items) }
     ensures err { OnErr result (StartsWith out.new.items out.old.items) }
 {
@@ -124,7 +124,7 @@ pub fn write_answer(answer: &Answer, out: &mut Vec<u8>) -> Result<(), AllocError
 /// Writes that a command is refused, at the end, without a line break: what `write_answer` writes of such an answer.
 /// Where memory runs out, a part of it may stand there.
 pub fn write_refused(refusal: &Refusal, out: &mut Vec<u8>) -> Result<(), AllocError>
-    ensures ok { OnOk result (Appends
+    ensures ok { OnOk result (AppendsSuch
         (λ text. SpellsReply text (Answered (Refused refusal.now))) out.old.items out.new.items) }
     ensures err { OnErr result (StartsWith out.new.items out.old.items) }
 {
@@ -148,7 +148,7 @@ pub fn write_refused(refusal: &Refusal, out: &mut Vec<u8>) -> Result<(), AllocEr
 
 // Writes that a role's type doesn't allow the command, or nothing.
 fn write_violation(violation: Violation, out: &mut Vec<u8>) -> Result<(), AllocError>
-    ensures ok { OnOk result (Appends
+    ensures ok { OnOk result (AppendsSuch
         (λ text. SpellsReply text (Answered (Refused (Violates violation)))) out.old.items out.new.items) }
     ensures err { OnErr result (out.new.items ≡ out.old.items) }
 {
@@ -166,7 +166,7 @@ fn write_violation(violation: Violation, out: &mut Vec<u8>) -> Result<(), AllocE
 // Writes the number of the step and the message that it took, or a part of them.
 #[inline(always)]
 fn write_done(done: &Done, out: &mut Vec<u8>) -> Result<(), AllocError>
-    ensures ok { OnOk result (Appends
+    ensures ok { OnOk result (AppendsSuch
         (λ text. SpellsLine [] text (done_tokens done.now.id done.now.got))
         out.old.items out.new.items) }
     ensures err { OnErr result (StartsWith out.new.items out.old.items) }
@@ -183,7 +183,7 @@ fn write_done(done: &Done, out: &mut Vec<u8>) -> Result<(), AllocError>
 
 // Writes the message, or a part of it.
 fn write_message(message: &Message, out: &mut Vec<u8>) -> Result<(), AllocError>
-    ensures ok { OnOk result (Appends
+    ensures ok { OnOk result (AppendsSuch
         (λ text. SpellsToken [] text (message_token message.now)) out.old.items out.new.items) }
     ensures err { OnErr result (StartsWith out.new.items out.old.items) }
 {
@@ -195,7 +195,7 @@ fn write_message(message: &Message, out: &mut Vec<u8>) -> Result<(), AllocError>
 
 // Writes the word and the numbers of the steps, or a part of them.
 fn write_undone(ids: &[StepId], out: &mut Vec<u8>) -> Result<(), AllocError>
-    ensures ok { OnOk result (Appends
+    ensures ok { OnOk result (AppendsSuch
         (λ text. SpellsLine [] text (undone_tokens ids.now)) out.old.items out.new.items) }
     ensures err { OnErr result (StartsWith out.new.items out.old.items) }
 {
@@ -205,7 +205,7 @@ fn write_undone(ids: &[StepId], out: &mut Vec<u8>) -> Result<(), AllocError>
 
 // Writes the word, the length of the journal and the numbers of the steps, or a part of them.
 fn write_news(length: u64, ids: &[StepId], out: &mut Vec<u8>) -> Result<(), AllocError>
-    ensures ok { OnOk result (Appends
+    ensures ok { OnOk result (AppendsSuch
         (λ text. SpellsLine [] text (news_tokens length ids.now)) out.old.items out.new.items) }
     ensures err { OnErr result (StartsWith out.new.items out.old.items) }
 {
@@ -217,8 +217,8 @@ fn write_news(length: u64, ids: &[StepId], out: &mut Vec<u8>) -> Result<(), Allo
 // Goes on with a line by the numbers of the steps, or a part of them.
 fn write_ids(ids: &[StepId], out: &mut Vec<u8>) -> Result<(), AllocError>
     ensures ok { OnOk result ((start : List ℕ) (first : Token) (others : List Token)
-        → Appends (λ text. SpellsLine [] text (first ∷ others)) start out.old.items
-        → Appends (λ text. SpellsLine [] text (first ∷ (others ++ map Number ids.now))) start out.new.items) }
+        → AppendsSuch (λ text. SpellsLine [] text (first ∷ others)) start out.old.items
+        → AppendsSuch (λ text. SpellsLine [] text (first ∷ (others ++ map Number ids.now))) start out.new.items) }
     ensures err { OnErr result (StartsWith out.new.items out.old.items) }
 {
     for id in ids {

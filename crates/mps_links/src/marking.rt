@@ -26,7 +26,7 @@ pub fn mark_from(arena: &mut Arena, id: StepId) -> usize
         (consequences (steps arena.old.keyed_steps) id)) }
     ensures closed { AreMarksClosed arena.new.keyed_steps }
     ensures issued { arena.new.issued ≡ arena.old.issued }
-    ensures ready { arena.new.is_ready ≡ arena.old.is_ready }
+    ensures space { arena.new.has_space ≡ arena.old.has_space }
     ensures key { arena.new.next_key ≡ arena.old.next_key }
 {
     let len = arena.len();
@@ -83,7 +83,7 @@ fn unmark_role(arena: &mut Arena, role: Role)
     requires last { AreLastMarked role arena.old.keyed_steps }
     ensures keyed_steps { arena.new.keyed_steps ≡ map (unmarked_of role) arena.old.keyed_steps }
     ensures issued { arena.new.issued ≡ arena.old.issued }
-    ensures ready { arena.new.is_ready ≡ arena.old.is_ready }
+    ensures space { arena.new.has_space ≡ arena.old.has_space }
     ensures key { arena.new.next_key ≡ arena.old.next_key }
 {
     let mut at = arena.last_of(role);
@@ -107,7 +107,7 @@ pub fn unmark(arena: &mut Arena)
     ensures keyed_steps { arena.new.keyed_steps ≡ map unmarked arena.old.keyed_steps }
     ensures none { marked_keys arena.new.keyed_steps ≡ [] }
     ensures issued { arena.new.issued ≡ arena.old.issued }
-    ensures ready { arena.new.is_ready ≡ arena.old.is_ready }
+    ensures space { arena.new.has_space ≡ arena.old.has_space }
     ensures key { arena.new.next_key ≡ arena.old.next_key }
 {
     steps_are_sound(arena);

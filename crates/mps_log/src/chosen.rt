@@ -1,5 +1,5 @@
 //! Steps that are chosen, to be taken back together. The arena marks each: a flag, which has nothing to do with the
-//! marks that roles leave.
+//! marks that roles leave, nor choosing steps with the choices that roles make.
 ghost use Rattle.std.specs.Prelude.{◌≡◌, [], None, map, length, IsSome, IfSome};
 ghost use Rattle.mps_history.specs.Steps.{step_of, within};
 ghost use Rattle.mps_history.specs.Dependence.{consequences, least};

@@ -1,6 +1,6 @@
 //! What the program says when it can't go on.
 ghost use Rattle.std.specs.Prelude.{◌≡◌, OnOk, IfOk};
-ghost use Rattle.mps_base.specs.Appends.{Appends};
+ghost use Rattle.mps_base.specs.Appends.{AppendsSuch};
 ghost use Rattle.mps_program.specs.Faults.{IsFaultLine, of_script, of_text, of_use, protocol_word, status_of};
 ghost use Rattle.mps_program.specs.Faults.{text_word};
 ghost use Rattle.mps_program.specs.declared.faults.ToolFault.TheVariants.{Memory as OutOfMemory};
@@ -209,7 +209,7 @@ pub fn fault_line(alloc: Global, fault: &ToolFault<'_>) -> Result<Vec<u8>, Alloc
 // Writes the line at the end, or a part of it.
 fn write_line(fault: &ToolFault<'_>, out: &mut Vec<u8>) -> Result<(), AllocError>
     ensures { OnOk result
-        (Appends (λ line. IsFaultLine line fault.now) out.old.items out.new.items) }
+        (AppendsSuch (λ line. IsFaultLine line fault.now) out.old.items out.new.items) }
 {
     match fault {
         ToolFault::Usage { text } => out.extend_from_slice(text.as_bytes()),

@@ -8,7 +8,7 @@ use crate::faults::ToolFault;
 use mps_dev::{OverRead, OverWrite};
 use mps_hub::{Desk, SessionFault};
 use mps_keeper::{Book, Keeper, NotRestored, RestoreFault, Restored, Unaccepted};
-use mps_words::Journal;
+use mps_words::JournalFolder;
 use std::alloc::Global;
 use std::fs::{DirBuilder, File};
 use std::io::{ErrorKind, Write};
@@ -23,7 +23,7 @@ pub type FileKeeper = Keeper<OverWrite<File>, File>;
 /// What records a server's sessions: a folder, and the protocol that it has to be of, as it is written.
 #[derive(Clone, Copy)]
 pub struct Recording<'a, 'p> {
-    pub journal: Journal<'a>,
+    pub journal: JournalFolder<'a>,
     pub protocol: &'p [u8],
 }
 
@@ -61,7 +61,7 @@ fn is_line(bytes: &[u8], text: &[u8]) -> bool {
     }
 }
 
-// Says whether the folder has the protocol of that text; none where it has another.
+// Says whether the folder has the protocol of that text already. Another one there is a fault.
 fn has_protocol<'a, R: Files<File = File> + AllocGlobal>(
     rt: &R,
     folder: &'a str,

@@ -23,7 +23,7 @@ use mps_open::roles_of;
 use mps_room::Room;
 use mps_session::Session;
 use mps_text::write_protocol;
-use mps_words::Journal;
+use mps_words::JournalFolder;
 use std::alloc::{AllocError, Global};
 use std::fs::File;
 use std::io;
@@ -319,12 +319,12 @@ pub struct Service<'a> {
     pub first: u64,
     pub sessions: u64,
     pub limits: Limits,
-    pub journal: Option<Journal<'a>>,
+    pub journal: Option<JournalFolder<'a>>,
 }
 
-// The journal with the protocol that it has to be of, if there is one.
+// The folder of journals with the protocol that they have to be of, if there is one.
 fn recording_of<'a, 'p>(
-    journal: Option<Journal<'a>>,
+    journal: Option<JournalFolder<'a>>,
     protocol: &'p [u8],
 ) -> Option<Recording<'a, 'p>>
     ensures { option_map (λ k. k.journal.folder.now) result ≡ option_map (λ j. j.folder.now) journal.entry }
@@ -359,8 +359,11 @@ where
     let alloc = rt.alloc();
     let protocol = load_protocol(alloc, &mut open_file(rt, file)?)?;
     let hub = hub_of(alloc, &protocol, service.first, service.sessions)?;
-    // once, also where nothing is recorded
-    let written = write_protocol(alloc, &protocol)?;
+    // what a journal has to be of, where there is one
+    let written = match &service.journal {
+        Some(_) => write_protocol(alloc, &protocol)?,
+        None => Vec::new(alloc),
+    };
     let recording = recording_of(service.journal, written.as_slice());
     let mut writer = OverWrite::new(io::writer(rt));
     serve_to(

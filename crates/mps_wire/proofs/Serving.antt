@@ -6,7 +6,7 @@ use Rattle.std.specs.List.{AllByRecursion}
 use Rattle.std.specs.Str.{IsAscii}
 use Rattle.std.proofs.lemmas.Option.{slice_get_within}
 use Rattle.mps_base.specs.Values.{IsShown}
-use Rattle.mps_base.specs.Appends.{Appends}
+use Rattle.mps_base.specs.Appends.{AppendsSuch}
 use Rattle.mps_local.specs.Local.{LocalType}
 use Rattle.mps_command.specs.declared.command.Command.{Command}
 use Rattle.mps_line.specs.declared.write_replies.Reply.{Reply}
@@ -39,14 +39,14 @@ pub spelled_ascii : (names : List (List ℕ)) (line : List ℕ) (role : ℕ) (co
 spelled_ascii names line role command spelled = shown_ascii line (shown_line names line role command spelled)
 
 -- the text of the reply answers the line
-pub answers_line : {T E : Type 0} (names : List (List ℕ)) (types : List LocalType) (line : List ℕ) (journal after : List Entry) (reply : Reply) (written : Result T E) (old new : List ℕ) → RepliesInScript names types line journal reply after → OnOk written (Appends (λ text. SpellsReply text reply) old new) → OnOk written (Appends (λ text. AnswersLine names types line journal text after) old new)
+pub answers_line : {T E : Type 0} (names : List (List ℕ)) (types : List LocalType) (line : List ℕ) (journal after : List Entry) (reply : Reply) (written : Result T E) (old new : List ℕ) → RepliesInScript names types line journal reply after → OnOk written (AppendsSuch (λ text. SpellsReply text reply) old new) → OnOk written (AppendsSuch (λ text. AnswersLine names types line journal text after) old new)
 answers_line names types line journal after reply written old new replies a = grind arith
 
 -- the text of the answer answers the command
 pub answered : {T E : Type 0} (names : List (List ℕ)) (types : List LocalType) (journal : List Entry) (role : ℕ) (command : Command) (after : List Entry) (answer : Answer) (written : Result T E) (old new : List ℕ)
     → MayAnswer answer (answer_to names types journal role command)
     → after ≡ grown journal role command answer
-    → OnOk written (Appends (λ text. SpellsReply text (Answered answer)) old new)
+    → OnOk written (AppendsSuch (λ text. SpellsReply text (Answered answer)) old new)
     → OnOk written (IsReplied names types journal role command after old new)
 answered names types journal role command after answer written old new wanted joined other = grind arith
 
@@ -58,7 +58,7 @@ unchanged journal role command answer asked = sym (cond-false (is_accepted answe
 pub answers_command : {T E : Type 0} (names : List (List ℕ)) (types : List LocalType) (line : List ℕ) (journal : List Entry) (role : ℕ) (command : Command) (after : List Entry) (written : Result T E) (old new : List ℕ)
     → IsReadable names line role command
     → OnOk written (IsReplied names types journal role command after old new)
-    → OnOk written (Appends (λ text. AnswersLine names types line journal text after) old new)
+    → OnOk written (AppendsSuch (λ text. AnswersLine names types line journal text after) old new)
 answers_command {T} {E} names types line journal role command after (Ok x) old new readable h =
     answers_line {T = T} {E = E} names types line journal after (Answered h.0) (Ok x) old new
     (grind arith)

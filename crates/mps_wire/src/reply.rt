@@ -1,7 +1,7 @@
 //! The reply to one line of a conversation.
 ghost use Rattle.std.specs.Prelude.{◌≡◌, OnOk, OnErr, IsSome};
 ghost use Rattle.std.specs.Io.{StartsWith};
-ghost use Rattle.mps_base.specs.Appends.{Appends};
+ghost use Rattle.mps_base.specs.Appends.{AppendsSuch};
 ghost use Rattle.mps_command.specs.Changes.{change_of};
 ghost use Rattle.mps_line.specs.Replies.{SpellsReply};
 ghost use Rattle.mps_wire.specs.Private.Commands.{RepliesToNumbered};
@@ -60,7 +60,7 @@ pub fn write_outcome<C: Caller>(
     outcome: &Outcome,
     out: &mut Vec<u8>,
 ) -> Result<(), AllocError>
-    ensures ok { OnOk result (Appends
+    ensures ok { OnOk result (AppendsSuch
         (λ text. SpellsReply text (reply_of outcome.now (C.kept caller.now))) out.old.items out.new.items) }
     ensures err { OnErr result (StartsWith out.new.items out.old.items) }
 {
@@ -68,7 +68,7 @@ pub fn write_outcome<C: Caller>(
         Outcome::Reply(reply) => reply.write(out),
         Outcome::Kept => match caller.kept() {
             Some(answer) => write_answer(answer, out),
-            // no outcome of `take_line` leads here: `Kept` is told only where an answer is kept
+            // no outcome of `take_line` leads here: it gives `Outcome::Kept` only where an answer is kept
             None => Reply::WrongNumber.write(out),
         },
     }

@@ -1,7 +1,7 @@
 //! A script over streams.
 ghost use Rattle.std.specs.Prelude.{◌≡◌, ◌+◌, ◌<◌, ◌≤◌, ◌^◌, ◌++◌, ℕ, List, [], length, map, OnOk, OnErr};
-ghost use Rattle.std.specs.Io.KnownBytes.{Appends as Takes};
-ghost use Rattle.mps_base.specs.Appends.{Appends};
+ghost use Rattle.std.specs.Io.KnownBytes.{Appends};
+ghost use Rattle.mps_base.specs.Appends.{AppendsSuch};
 ghost use Rattle.mps_command.specs.declared.command.Command.TheVariants.{News, Show};
 ghost use Rattle.mps_local.specs.Local.{plain};
 ghost use Rattle.mps_machine.specs.Machine.{initial};
@@ -121,7 +121,7 @@ fn reply_to_line(
 ) -> Result<(), AllocError>
     ensures names { room.new.names ≡ room.old.names }
     ensures types { room.new.types ≡ room.old.types }
-    ensures reply { OnOk result (Appends (λ text. AnswersLine room.old.names room.old.types
+    ensures reply { OnOk result (AppendsSuch (λ text. AnswersLine room.old.names room.old.types
         line.now room.old.journal text room.new.journal)
         answers.old.items answers.new.items) }
 {
@@ -172,7 +172,7 @@ struct ScriptRun {
 
 impl ScriptRun {
     // Answers the line that is kept, and begins the next.
-    fn answer_kept(&mut self) -> Result<(), AllocError>
+    fn answer_line_kept(&mut self) -> Result<(), AllocError>
         ensures names { self.new.room.names ≡ self.old.room.names }
         ensures types { self.new.room.types ≡ self.old.room.types }
         ensures next { OnOk result (self.new.line.items ≡ []) }
@@ -200,13 +200,13 @@ impl ScriptRun {
     {
         if !self.line.is_empty() {
             keep(&mut self.line, bytes)?;
-            return self.answer_kept();
+            return self.answer_line_kept();
         }
         // it came whole, and is answered where it stands
         answer_line(self.alloc, &mut self.room, bytes, &mut self.answers)
     }
 
-    // Takes the next bytes, and answers each line that they end.
+    // Appends the next bytes, and answers each line that they end.
     fn feed(&mut self, bytes: &[u8]) -> Result<(), AllocError>
         requires { length self.old.line.items ≤ most_kept }
         ensures names { self.new.room.names ≡ self.old.room.names }
@@ -234,14 +234,14 @@ impl ScriptRun {
         if self.line.is_empty() {
             return Ok(());
         }
-        self.answer_kept()
+        self.answer_line_kept()
     }
 }
 
 // Writes the answers that wait.
 fn send_answers<W: Sink>(writer: &mut W, answers: &mut Vec<u8>) -> Result<(), Failed>
     requires { W.failed_calls writer.old < 2 ^ 63 }
-    ensures sent { OnOk result (Takes (W.taken writer.old) (W.taken writer.new)
+    ensures sent { OnOk result (Appends (W.taken writer.old) (W.taken writer.new)
         answers.old.items) }
     ensures none_wait { OnOk result (answers.new.items ≡ []) }
     ensures counted { OnOk result (W.failed_calls writer.new ≡ W.failed_calls writer.old) }

@@ -17,13 +17,13 @@ pub enum Order<'a> {
         /// For how many seconds a connection may send nothing. `None` is for ever.
         idle: Option<u64>,
         /// Where the sessions are kept, if they are.
-        journal: Option<Journal<'a>>,
+        journal: Option<JournalFolder<'a>>,
     },
 }
 
 /// Where sessions are kept.
 #[derive(Clone, Copy, Debug, PartialEq, Eq)]
-pub struct Journal<'a> {
+pub struct JournalFolder<'a> {
     pub folder: &'a str,
     /// Whether nothing is answered before the disk has said that it is kept.
     pub sync: bool,

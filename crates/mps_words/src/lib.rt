@@ -5,6 +5,6 @@ mod command;
 mod faults;
 mod words;
 
-pub use command::{Journal, Order, Task};
+pub use command::{JournalFolder, Order, Task};
 pub use faults::UseFault;
 pub use words::{order, words_of};

@@ -5,7 +5,7 @@ ghost use Rattle.mps_words.specs.Orders.{IsInRange};
 ghost use Rattle.mps_words.specs.Uses.{Says, no_text};
 ghost use Rattle.mps_words.specs.Private.Uses.{missing};
 
-use crate::command::{Journal, Order, Task};
+use crate::command::{JournalFolder, Order, Task};
 use crate::faults::{UseFault, usage};
 use clap::builder::ValueParser;
 use clap::error::ErrorKind;
@@ -302,10 +302,10 @@ fn bound_in<'a>(found: &ArgMatches<'a>, name: &str, range: Range) -> Option<Opti
 }
 
 // Where the sessions are kept, if they are.
-fn journal_in<'a>(found: &ArgMatches<'a>) -> Option<Journal<'a>> {
+fn journal_in<'a>(found: &ArgMatches<'a>) -> Option<JournalFolder<'a>> {
     let folder = found.get_str("journal")?;
     let sync = found.get_flag("sync");
-    Some(Journal { folder, sync })
+    Some(JournalFolder { folder, sync })
 }
 
 // The order to serve the file, with its options.

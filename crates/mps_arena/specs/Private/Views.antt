@@ -15,7 +15,7 @@ arena_value a = record {
   keyed_steps = keyed_steps_of a;
   issued = length a.index.items;
   next_key = a.nodes.vacant_key;
-  is_ready =
+  has_space =
       nat_lt (slab_len a.nodes) a.nodes.capacity && nat_lt (vec_len a.index) (vec_capacity a.index)
       && nat_lt (a.nodes.vacant_key + 1) (2 ^ 32);
 }

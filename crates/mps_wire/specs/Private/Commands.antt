@@ -1,6 +1,6 @@
 -- What one command does, and what is written of it.
 use Rattle.std.specs.Prelude.{◌≡◌, ℕ, List}
-use Rattle.mps_base.specs.Appends.{Appends}
+use Rattle.mps_base.specs.Appends.{AppendsSuch}
 use Rattle.mps_local.specs.Local.{LocalType}
 use Rattle.mps_command.specs.declared.answer.Answer.{Answer}
 use Rattle.mps_command.specs.declared.command.Command.{Command}
@@ -21,7 +21,7 @@ abbrev pub IsReplied : (names : List (List ℕ)) → List LocalType → (journal
 IsReplied names types journal role command after old new =
     (answer : Answer) × MayAnswer answer (journals.answer_to names types journal role command)
     × (after ≡ grown journal role command answer)
-    × Appends (λ text. SpellsReply text (Answered answer)) old new
+    × AppendsSuch (λ text. SpellsReply text (Answered answer)) old new
 
 -- a command with a number was given, and the reply tells what came of it
 pub record RepliesToNumbered {C : Type 0} (caller : Ghosts C) (c : C) (number : ℕ) (command : Command) (reply : Reply)

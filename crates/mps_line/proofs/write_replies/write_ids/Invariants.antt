@@ -1,13 +1,13 @@
 -- A line goes on with the steps before this one.
 use Rattle.std.proofs.Common.{ℕ, List, [], ◌∷◌, ◌++◌, take}
 use Rattle.std.specs.Prelude.{⊤, map}
-use Rattle.mps_base.specs.Appends.{Appends}
+use Rattle.mps_base.specs.Appends.{AppendsSuch}
 use Rattle.mps_line.specs.Tokens.{Token, Number, SpellsLine}
 use Rattle.mps_line.proofs.write_replies.write_ids.Given as goal
 
 abbrev pub invariant-loop-id : goal.invariant-loop-id
 invariant-loop-id l =
-    Appends (λ text. ⊤) l.fn.out.items l.out.items
+    AppendsSuch (λ text. ⊤) l.fn.out.items l.out.items
     × ((start : List ℕ) (first : Token) (others : List Token)
-    → Appends (λ text. SpellsLine [] text (first ∷ others)) start l.fn.out.items
-    → Appends (λ text. SpellsLine [] text (first ∷ (others ++ map Number (take l.id-index l.ids)))) start l.out.items)
+    → AppendsSuch (λ text. SpellsLine [] text (first ∷ others)) start l.fn.out.items
+    → AppendsSuch (λ text. SpellsLine [] text (first ∷ (others ++ map Number (take l.id-index l.ids)))) start l.out.items)

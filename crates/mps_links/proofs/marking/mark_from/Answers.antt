@@ -50,7 +50,7 @@ loop-count-init c =
       size = c.follow.ensures.size;
       numbers = subst (λ (now : List KeyedStep). HaveNumbers now c.follow.new.self.firsts) (sym c.set_mark.ensures.keyed_steps) (numbers_marked c.unwrap-first.result true es c.follow.new.self.firsts c.follow.ensures.numbers);
       issued = c.set_mark.ensures.issued;
-      ready = c.set_mark.ensures.ready;
+      space = c.set_mark.ensures.space;
       key = c.set_mark.ensures.key;
     }
 
@@ -75,7 +75,7 @@ loop-count-preserved c =
       size = follow.ensures.size;
       numbers = subst (λ (now : List KeyedStep). HaveNumbers now follow.new.self.firsts) (sym set.keyed_steps) (numbers_marked c.in-Some.key true c.loop-count.arena.keyed_steps follow.new.self.firsts follow.ensures.numbers);
       issued = set.issued ∙ i.issued;
-      ready = set.ready ∙ i.ready;
+      space = set.space ∙ i.space;
       key = set.key ∙ i.key;
     }
 

@@ -11,6 +11,6 @@ invariant-loop-count l = record {
   size : length l.pending.firsts ≡ 8;
   numbers : HaveNumbers l.arena.keyed_steps l.pending.firsts;
   issued : l.arena.issued ≡ l.fn.arena.issued;
-  ready : l.arena.is_ready ≡ l.fn.arena.is_ready;
+  space : l.arena.has_space ≡ l.fn.arena.has_space;
   key : l.arena.next_key ≡ l.fn.arena.next_key;
 }

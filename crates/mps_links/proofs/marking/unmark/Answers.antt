@@ -6,7 +6,7 @@ use Rattle.mps_links.proofs.Unmarking.{unmarked_below, below_none, below_more, b
 use Rattle.mps_links.proofs.marking.unmark.Goals as goal
 
 pub loop-role-init : goal.loop-role-init
-loop-role-init c = record { keyed_steps = sym (below_none c.args.arena.now.keyed_steps); issued = refl; ready = refl; key = refl }
+loop-role-init c = record { keyed_steps = sym (below_none c.args.arena.now.keyed_steps); issued = refl; space = refl; key = refl }
 
 pub unmark_role-requires-clause-last : goal.unmark_role-requires-clause-last
 unmark_role-requires-clause-last c =
@@ -24,7 +24,7 @@ loop-role-preserved c =
           ∙ ap (map (unmarked_of c.loop-role.role)) i.keyed_steps
           ∙ below_more c.loop-role.role es;
       issued = c.unmark_role.ensures.issued ∙ i.issued;
-      ready = c.unmark_role.ensures.ready ∙ i.ready;
+      space = c.unmark_role.ensures.space ∙ i.space;
       key = c.unmark_role.ensures.key ∙ i.key;
     }
 

@@ -6,6 +6,6 @@ abbrev pub invariant-loop-role : goal.invariant-loop-role
 invariant-loop-role l = record {
   keyed_steps : l.arena.keyed_steps ≡ map (unmarked_below l.role) l.fn.arena.keyed_steps;
   issued : l.arena.issued ≡ l.fn.arena.issued;
-  ready : l.arena.is_ready ≡ l.fn.arena.is_ready;
+  space : l.arena.has_space ≡ l.fn.arena.has_space;
   key : l.arena.next_key ≡ l.fn.arena.next_key;
 }

@@ -31,7 +31,7 @@ loop-preserved c =
       walk = rw (set.keyed_steps, c.prev_of_role-at.ensures) (walk_goes c.args.role _ _ _ _ i.walk c.in-Some.key c.in-Some.is c.steps_are_sound.ensures);
       end = i.end;
       issued = set.issued ∙ i.issued;
-      ready = set.ready ∙ i.ready;
+      space = set.space ∙ i.space;
       key = set.key ∙ i.key;
     }
 

@@ -7,6 +7,6 @@ invariant-loop l = record {
   walk : IsWalk l.fn.role l.fn.arena.keyed_steps l.arena.keyed_steps l.at l.counter;
   end : l.end ≡ length l.fn.arena.keyed_steps;
   issued : l.arena.issued ≡ l.fn.arena.issued;
-  ready : l.arena.is_ready ≡ l.fn.arena.is_ready;
+  space : l.arena.has_space ≡ l.fn.arena.has_space;
   key : l.arena.next_key ≡ l.fn.arena.next_key;
 }

@@ -1,5 +1,5 @@
 use Rattle.std.proofs.Common.{◌≡◌, ℕ, List, [], ◌∷◌, ◌++◌, Result, Ok, Err, OnOk, ap, ◌∙◌, append_assoc, codes, refl}
-use Rattle.mps_base.specs.Appends.{Appends}
+use Rattle.mps_base.specs.Appends.{AppendsSuch}
 use Rattle.mps_base.specs.Numbers.{IsNumberText}
 use Rattle.mps_program.specs.Faults.{IsFaultLine}
 use Rattle.mps_program.specs.declared.faults.ToolFault.{ToolFault}
@@ -7,8 +7,8 @@ use Rattle.mps_program.specs.declared.faults.ToolFault.TheVariants.{JournalLine}
 use Rattle.mps_program.proofs.faults.write_line.Goals as goal
 
 -- two numbers after the words
-two_numbers : {T E : Type 0} (r : Result T E) (fault : ToolFault) (session line : ℕ) (old worded numbered spaced new : List ℕ) → fault ≡ JournalLine session line → worded ≡ old ++ codes "refused journal " → Appends (λ text. IsNumberText text session) worded numbered → spaced ≡ numbered ++ 32 ∷ []
-    → OnOk r (Appends (λ text. IsNumberText text line) spaced new) → OnOk r (Appends (λ text. IsFaultLine text fault) old new)
+two_numbers : {T E : Type 0} (r : Result T E) (fault : ToolFault) (session line : ℕ) (old worded numbered spaced new : List ℕ) → fault ≡ JournalLine session line → worded ≡ old ++ codes "refused journal " → AppendsSuch (λ text. IsNumberText text session) worded numbered → spaced ≡ numbered ++ 32 ∷ []
+    → OnOk r (AppendsSuch (λ text. IsNumberText text line) spaced new) → OnOk r (AppendsSuch (λ text. IsFaultLine text fault) old new)
 two_numbers (Err e) fault session line old worded numbered spaced new is words first space second = tt
 two_numbers (Ok x) fault session line old worded numbered spaced new is words first space second =
     let w : List ℕ = codes "refused journal " in

@@ -11,11 +11,11 @@ not_empty line len empty n e f l = cc
 pub returns-clause-answered : goal.returns-clause-answered
 returns-clause-answered c =
     let self = c.args.self.now in
-    on_ok_weaker c.answer_kept.result
+    on_ok_weaker c.answer_line_kept.result
     (λ a bytes out b. (
       ended a.0,
       a.1,
       all_with_rest (answering_of self) [] (by_front self.room.names self.room.types) bytes self.line.items out a.0 _ _ b
           (not_empty self.line.items _ c.is_empty.result self.line.ok.0 c.is_empty.ensures c.if-is_empty.false) a.2,
     ))
-    c.answer_kept.ensures.answer
+    c.answer_line_kept.ensures.answer
