@@ -85,6 +85,7 @@ impl Numbers {
     }
 
     /// Keeps the answer under its number, in place of the one before it.
+    #[inline(always)]
     pub fn keep(&mut self, number: u64, answer: Answer)
         ensures { self.new.newest ≡ Some (record { number = number; answer = answer }) }
     {
