@@ -114,6 +114,7 @@ pub(crate) fn write_name(name: &Name, out: &mut Vec<u8>) -> Result<(), AllocErro
 }
 
 // Writes the number of the step.
+#[inline(always)]
 pub(crate) fn write_step(id: StepId, out: &mut Vec<u8>) -> Result<(), AllocError>
     ensures ok { OnOk result
         (AppendsSuch (λ text. SpellsNumber text id) out.old.items out.new.items) }
@@ -123,6 +124,7 @@ pub(crate) fn write_step(id: StepId, out: &mut Vec<u8>) -> Result<(), AllocError
 }
 
 // Writes the number, as `write_number` does. Its contract is of the token: a number below 2^64.
+#[inline(always)]
 pub(crate) fn write_count(n: u64, out: &mut Vec<u8>) -> Result<(), AllocError>
     ensures ok { OnOk result
         (AppendsSuch (λ text. SpellsNumber text n) out.old.items out.new.items) }

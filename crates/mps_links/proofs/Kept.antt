@@ -36,6 +36,11 @@ pub role_is : (o : Option KeyedStep) (r : ℕ) (l : List (Option ℕ)) (f : Opti
     → unwrap_or (option_map (λ e. slice_set l e.step.role (f (slice_index_or l e.step.role None))) o) l ≡ slice_set l r (f (slice_index_or l r None))
 role_is o r l f is = grind arith
 
+-- none comes before another
+pub earlier_none : (es : List KeyedStep) (o : Option ℕ) → earlier es o None ≡ o
+earlier_none es None = refl
+earlier_none es (Some j) = refl
+
 -- one more is looked at
 pub one_more : (es : List KeyedStep) (l : List (Option NumberedKey)) (i : ℕ) (d : Option NumberedKey) → i < length l
     → earliest es (keys_alone (take (i + 1) l)) ≡ earlier es (earliest es (keys_alone (take i l))) (key_of (slice_index_or l i d))

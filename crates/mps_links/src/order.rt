@@ -39,9 +39,9 @@ pub(crate) fn earlier(a: Option<NumberedKey>, b: Option<NumberedKey>) -> Option<
         → (key_of result ≡ earlier es (key_of a) (key_of b)) × HasNumber es result }
 {
     match (a, b) {
-        (Some(first), Some(second)) => { if first.id.is_before(second.id) { a } else { b } }
-        (Some(_), None) => a,
+        (_, None) => a,
         (None, _) => b,
+        (Some(first), Some(second)) => { if first.id.is_before(second.id) { a } else { b } }
     }
 }
 
@@ -51,8 +51,8 @@ pub(crate) fn later(a: Option<NumberedKey>, b: Option<NumberedKey>) -> Option<Nu
         → (key_of result ≡ later es (key_of a) (key_of b)) × HasNumber es result }
 {
     match (a, b) {
-        (Some(one), Some(other)) => { if one.id.is_before(other.id) { b } else { a } }
-        (Some(_), None) => a,
+        (_, None) => a,
         (None, _) => b,
+        (Some(one), Some(other)) => { if one.id.is_before(other.id) { b } else { a } }
     }
 }

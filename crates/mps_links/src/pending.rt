@@ -42,7 +42,10 @@ impl Pending {
     {
         let mut first = None;
         for pending in &self.firsts {
-            first = earlier(first, *pending);
+            // most are `None` where few roles act
+            if pending.is_some() {
+                first = earlier(first, *pending);
+            }
         }
         key_of(first)
     }

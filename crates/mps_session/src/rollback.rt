@@ -1,5 +1,5 @@
 //! Steps undone with all that depend on them.
-ghost use Rattle.std.specs.Prelude.{◌≡◌, ◌+◌, ◌<◌, ◌≤◌, ◌++◌, [], List, reverse, length, Some, None, unwrap_or};
+ghost use Rattle.std.specs.Prelude.{◌≡◌, ◌≢◌, ◌+◌, ◌<◌, ◌≤◌, ◌++◌, [], List, reverse, length, Some, None, unwrap_or};
 ghost use Rattle.std.specs.Prelude.{vec_len, vec_capacity, IsSome, IfOk, IfErr, OnOk, OnErr, ⊤};
 ghost use Rattle.std.specs.List.{AllByRecursion};
 ghost use Rattle.std.specs.Option.{option_map};
@@ -27,27 +27,31 @@ use mps_base::{Name, Role, StepId};
 use mps_command::{Refusal, StepIds};
 use std::alloc::{AllocError, Global};
 
-// Memory for so many numbers, and for a copy of them.
+// Memory for so many numbers, and for a copy of them. One number alone is copied without a list.
 fn space_for(alloc: Global, count: usize) -> Result<(Vec<StepId>, Vec<StepId>), AllocError>
     ensures none { IfOk result (λ space. vec_len space.0 ≡ 0) }
     ensures first { IfOk result (λ space. space.0.items ≡ []) }
     ensures first_space { IfOk result (λ space. count ≤ vec_capacity space.0) }
     ensures copy { IfOk result (λ space. space.1.items ≡ []) }
-    ensures copy_space { IfOk result (λ space. count ≤ vec_capacity space.1) }
+    ensures copy_space { IfOk result (λ space. count ≢ 1 → count ≤ vec_capacity space.1) }
 {
+    let copied = if count == 1 { 0 } else { count };
     Ok((
         Vec::with_capacity(alloc, count)?,
-        Vec::with_capacity(alloc, count)?,
+        Vec::with_capacity(alloc, copied)?,
     ))
 }
 
 // The numbers, and a copy of them in the memory that there is for it.
 fn with_copy(ids: Vec<StepId>, space: Vec<StepId>) -> (StepIds, Vec<StepId>)
     requires empty { space.items ≡ [] }
-    requires space { vec_len ids ≤ vec_capacity space }
+    requires space { vec_len ids ≢ 1 → vec_len ids ≤ vec_capacity space }
     ensures first { result.0 ≡ ids.items }
     ensures copy { result.1.items ≡ ids.items }
 {
+    if let [id] = ids.as_slice() {
+        return (StepIds::one(*id), ids);
+    }
     let mut copy = space;
     if copy.extend_from_slice(&ids).is_err() {
         unreachable!()
@@ -72,7 +76,7 @@ impl Configuration {
         ensures first { IfOk result (λ space. space.0.items ≡ []) }
         ensures first_space { IfOk result (λ space. count ≤ vec_capacity space.0) }
         ensures copy { IfOk result (λ space. space.1.items ≡ []) }
-        ensures copy_space { IfOk result (λ space. count ≤ vec_capacity space.1) }
+        ensures copy_space { IfOk result (λ space. count ≢ 1 → count ≤ vec_capacity space.1) }
         ensures free { OnOk result
             (least (marked_commits (lists_of self.now).keyed_steps) ≡ None) }
         ensures fault { IfErr result (λ refusal. unwrap_or
