@@ -1,16 +1,16 @@
 //! How long a connection is waited for.
 
-ghost use Rattle.std.specs.Io.{ReadsAtMost};
+ghost use Rattle.std.specs.Io.{ReadsAtMost, WritesAtMost};
 
 use std::io;
-use std::io::{ErrorKind, Read};
+use std::io::{ErrorKind, Read, Write};
 use std::net::TcpStream;
 use std::time::{Clock, Duration, Instant};
 
 /// For how many seconds a server that accepts connections without end waits for the first line of one.
 pub const FIRST_LINE: u64 = 10;
 
-// How often a read is tried again that a signal interrupts.
+// How often a read or a write is tried again that a signal interrupts.
 const INTERRUPTS: u64 = 1_000;
 
 // Reads once, and again where a signal interrupts it: with a time set the system says so also of a process that was
@@ -49,6 +49,30 @@ pub(crate) fn read_until<R: Clock>(
 // The moment after so long a time.
 pub(crate) fn moment_after<R: Clock>(clock: &R, time: Duration) -> Option<Instant> {
     Instant::now(clock).ok()?.checked_add(time)
+}
+
+/// A connection's stream, to be written to. A write that a signal interrupts is tried again, as a read is.
+#[derive(Clone, Copy)]
+pub(crate) struct Steady<'s> {
+    pub(crate) stream: &'s TcpStream,
+}
+
+impl Write for Steady<'_> {
+    fn write(&mut self, buf: &[u8]) -> io::Result<usize> {
+        let mut stream = self.stream;
+        for _ in 0..INTERRUPTS {
+            match stream.write(buf) {
+                Err(error) if error.kind() == ErrorKind::Interrupted => {}
+                written => return written,
+            }
+        }
+        stream.write(buf)
+    }
+
+    fn flush(&mut self) -> io::Result<()> {
+        let mut stream = self.stream;
+        stream.flush()
+    }
 }
 
 /// A connection's stream. Its first line has to have come by a moment, where there is one; after it each read waits as

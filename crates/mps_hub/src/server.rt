@@ -8,7 +8,7 @@ use crate::desk::Desk;
 use crate::gates::{Gate, Unguarded};
 use crate::limits::Limits;
 use crate::lobby::{Lobby, bell_of};
-use crate::patience::{Patient, moment_after, read_until};
+use crate::patience::{Patient, Steady, moment_after, read_until};
 use mps_dev::{Discard, OverRead, OverWrite, Sink};
 use mps_keeper::{Disk, Keeper};
 use std::alloc::Global;
@@ -92,7 +92,7 @@ fn connection<R: Wait + Clock + 'static, G: Gate + 'static, S: Sink + 'static, D
     if let Some(patient) = Patient::new(rt, &stream, limits.first_line(), limits.idle) {
         let _set = stream.set_nodelay(true);
         let mut reader = OverRead::new(patient);
-        let mut writer = OverWrite::new(&*stream);
+        let mut writer = OverWrite::new(Steady { stream: &stream });
         let _ended = attend(
             rt,
             alloc,

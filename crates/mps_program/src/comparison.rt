@@ -8,7 +8,7 @@ ghost use Rattle.mps_program.specs.Faults.{IsCompareFault, IsFileFault, IsScript
 ghost use Rattle.mps_wire.specs.Runs.{max_reads};
 
 use crate::faults::ToolFault;
-use crate::files::{open_file, tell};
+use crate::files::{Script, open_file, open_script, tell};
 use crate::load::{load_protocol, open_session};
 use crate::tally::Tally;
 use mps_base::Roles;
@@ -122,23 +122,29 @@ fn tell_refused<R: Eprint>(rt: &R, which: &str, tally: &Tally) {
 }
 
 // Opens both scripts, of which nothing was read yet.
-fn open_both<'a, R: Files>(
+fn open_both<'a, R: Files + Input>(
     rt: &R,
     script: &'a str,
     other: &'a str,
-) -> Result<(OverRead<R::File>, OverRead<R::File>), ToolFault<'a>>
+) -> Result<
+    (
+        OverRead<Script<R::File, R::Reader>>,
+        OverRead<Script<R::File, R::Reader>>,
+    ),
+    ToolFault<'a>,
+>
     ensures first_fresh { IfOk result (λ readers. calls_of readers.0 ≡ 0) }
     ensures second_fresh { IfOk result (λ readers. calls_of readers.1 ≡ 0) }
     ensures fault { IfErr result (λ fault.
         IsFileFault script.now fault ⊎ IsFileFault other.now fault) }
 {
-    let first = open_file(rt, script)?;
-    let second = open_file(rt, other)?;
+    let first = open_script(rt, script)?;
+    let second = open_script(rt, other)?;
     Ok((first, second))
 }
 
 // Compares the scripts in two files, and prints what is said of them. Gives the status.
-fn compare_scripts<'a, R: Files + AllocGlobal + Print + Eprint>(
+fn compare_scripts<'a, R: Files + Input + AllocGlobal + Print + Eprint>(
     rt: &R,
     roles: &Roles,
     first: Session,
@@ -180,7 +186,7 @@ fn compare_scripts<'a, R: Files + AllocGlobal + Print + Eprint>(
 ///
 /// The protocol is read and checked before a script is opened, and both are opened before the first
 /// is read.
-pub fn compare_files<'a, R: Files + AllocGlobal + Print + Eprint>(
+pub fn compare_files<'a, R: Files + Input + AllocGlobal + Print + Eprint>(
     rt: &R,
     file: &'a str,
     script: &'a str,

@@ -22,7 +22,7 @@ use std::time::{Clock, Duration};
 use std::{io, str};
 
 /// Carries out a task, and gives the exit status: 1 where two scripts differ, or a strict run met a refusal, else 0.
-pub fn carry_out<'a, R: Files + AllocGlobal + Print + Eprint>(
+pub fn carry_out<'a, R: Files + Input + AllocGlobal + Print + Eprint>(
     rt: &R,
     task: Task<'a>,
 ) -> Result<u8, ToolFault<'a>>
@@ -56,6 +56,7 @@ pub fn obey<
     'a,
     R: Files<File = File>
         + AllocGlobal
+        + Input
         + Print
         + Eprint
         + Net<Listener = TcpListener, Stream = TcpStream>
@@ -158,6 +159,7 @@ pub fn program<
     R: Env
         + Files<File = File>
         + AllocGlobal
+        + Input
         + Print
         + Eprint
         + Net<Listener = TcpListener, Stream = TcpStream>

@@ -12,21 +12,83 @@ use mps_dev::{OverRead, Sink, Source};
 use mps_text::MAX_TEXT_BYTES;
 use mps_wire::sending::send_all;
 use std::alloc::Global;
-use std::fs;
+use std::fs::File;
+use std::io::Read;
+use std::os::fd::AsRawFd;
 use std::rt::Files;
+use std::{fs, io};
+
+// How many standard streams a process has. They have the descriptors from 0 on.
+const STANDARD_STREAMS: i32 = 3;
+
+// The name by which a script is the standard input.
+const STANDARD_INPUT: &str = "-";
+
+// A descriptor that can neither be read nor written, if it is that of a standard stream.
+fn placeholder<R: Files<File = File>>(rt: &R) -> Option<File> {
+    let root = File::open(rt, "/").ok()?;
+    if root.as_raw_fd() < STANDARD_STREAMS {
+        Some(root)
+    } else {
+        None
+    }
+}
+
+/// Takes the descriptors of the standard streams that are closed, as long as what is given lives. The system gives the
+/// lowest that is free, so a file or a connection would get them else, and what is printed would go there.
+pub(crate) fn closed_streams<R: Files<File = File>>(rt: &R) -> [Option<File>; 3] {
+    [placeholder(rt), placeholder(rt), placeholder(rt)]
+}
+
+// Opens the file of that name.
+fn opened<'a, R: Files>(rt: &R, name: &'a str) -> Result<R::File, ToolFault<'a>>
+    ensures fault { IfErr result (IsFileFault name.now) }
+{
+    match fs::open(rt, name) {
+        Ok(file) => Ok(file),
+        Err(why) => Err(ToolFault::File {
+            name,
+            why: Some(why),
+        }),
+    }
+}
+
+/// A script that is read: a file, or the standard input.
+#[derive(Drop)]
+pub enum Script<F, I> {
+    File(F),
+    Input(I),
+}
+
+impl<F: Read, I: Read> Read for Script<F, I> {
+    fn read(&mut self, buf: &mut [u8]) -> io::Result<usize> {
+        match self {
+            Script::File(file) => file.read(buf),
+            Script::Input(input) => input.read(buf),
+        }
+    }
+}
+
+/// Opens the script, of which nothing was read yet: the file of that name, or the standard input by `-`.
+pub fn open_script<'a, R: Files + Input>(
+    rt: &R,
+    name: &'a str,
+) -> Result<OverRead<Script<R::File, R::Reader>>, ToolFault<'a>>
+    ensures fresh { IfOk result (λ reader. calls_of reader ≡ 0) }
+    ensures fault { IfErr result (IsFileFault name.now) }
+{
+    if name == STANDARD_INPUT {
+        return Ok(OverRead::new(Script::Input(rt.reader())));
+    }
+    Ok(OverRead::new(Script::File(opened(rt, name)?)))
+}
 
 /// Opens the file, of which nothing was read yet.
 pub fn open_file<'a, R: Files>(rt: &R, name: &'a str) -> Result<OverRead<R::File>, ToolFault<'a>>
     ensures fresh { IfOk result (λ reader. calls_of reader ≡ 0) }
     ensures fault { IfErr result (IsFileFault name.now) }
 {
-    match fs::open(rt, name) {
-        Ok(opened) => Ok(OverRead::new(opened)),
-        Err(why) => Err(ToolFault::File {
-            name,
-            why: Some(why),
-        }),
-    }
+    Ok(OverRead::new(opened(rt, name)?))
 }
 
 /// Reads a text to its end, or one byte more of it than a protocol may have.

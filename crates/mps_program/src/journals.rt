@@ -255,20 +255,17 @@ pub fn record_sessions<'a, R: Files<File = File> + AllocGlobal + Wait + 'static>
         }
     }
     let keepers = record_all(alloc, first, read, journal.sync)?;
-    let parent = format!(in alloc; "{folder}/..")?;
-    if journal.sync && !(has_synced(rt, folder) && has_synced(rt, parent.as_str())) {
-        return Err(ToolFault::File {
-            name: folder,
-            why: None,
-        });
+    if journal.sync {
+        let parent = format!(in alloc; "{folder}/..")?;
+        if let Err(error) = sync_folders(rt, folder, parent.as_str()) {
+            return Err(unusable(folder, error));
+        }
     }
     Ok(keepers)
 }
 
-// Has the disk store which files the folder has.
-fn has_synced<R: Files<File = File>>(rt: &R, folder: &str) -> bool {
-    match File::open(rt, folder) {
-        Ok(folder) => folder.sync_all().is_ok(),
-        Err(_) => false,
-    }
+// Has the disk store which files the folder has, and that it is in its parent.
+fn sync_folders<R: Files<File = File>>(rt: &R, folder: &str, parent: &str) -> io::Result<()> {
+    File::open(rt, folder)?.sync_all()?;
+    File::open(rt, parent)?.sync_all()
 }

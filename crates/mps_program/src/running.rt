@@ -4,7 +4,7 @@ ghost use Rattle.mps_machine.specs.Machine.{initial};
 ghost use Rattle.mps_program.specs.Faults.{IsScriptFault, IsRunFault};
 
 use crate::faults::ToolFault;
-use crate::files::open_file;
+use crate::files::{open_file, open_script};
 use crate::load::{load_protocol, open_session};
 use crate::tally::Strict;
 use mps_base::Roles;
@@ -14,8 +14,8 @@ use mps_wire::script::run_script;
 use std::rt::Files;
 use std::{io, mem};
 
-// Runs the script in the file on this session of these roles, and gives the answers to the sink.
-fn run_script_file<'a, R: Files + AllocGlobal, W: Sink>(
+// Runs the script of that name on this session of these roles, and gives the answers to the sink.
+fn run_script_file<'a, R: Files + Input + AllocGlobal, W: Sink>(
     rt: &R,
     script: &'a str,
     roles: Roles,
@@ -27,7 +27,7 @@ fn run_script_file<'a, R: Files + AllocGlobal, W: Sink>(
     requires writes { W.failed_calls writer.old < 2 ^ 62 }
     ensures fault { IfErr result (IsScriptFault script.now) }
 {
-    let mut reader = open_file(rt, script)?;
+    let mut reader = open_script(rt, script)?;
     let room = run_script(rt.alloc(), &mut reader, writer, roles, session)?;
     // the program ends with the script, and its memory goes as a whole
     mem::forget(room);
@@ -60,7 +60,7 @@ fn strict_status<'a, R: Eprint>(
 /// the status is 1.
 ///
 /// The protocol is read and checked before the script is opened.
-pub fn run_file<'a, R: Files + AllocGlobal + Print + Eprint>(
+pub fn run_file<'a, R: Files + Input + AllocGlobal + Print + Eprint>(
     rt: &R,
     file: &'a str,
     script: &'a str,

@@ -7,8 +7,8 @@ use std::cell::RefCell;
 use std::fmt::Display;
 use std::fs::{FileTimes, Metadata, OpenFile, OpenOptions, Permissions};
 use std::io::{
-    self, Cursor, Eprint, Error, ErrorKind, PipeReader, PipeWriter, Print, Read, Seek, SeekFrom,
-    Write,
+    self, BufRead, Cursor, Eprint, Error, ErrorKind, Input, Lines, PipeReader, PipeWriter, Print,
+    Read, Seek, SeekFrom, Write,
 };
 use std::os::fd::BorrowedFd;
 use std::os::unix::net::SocketAddr;
@@ -16,7 +16,7 @@ use std::path::PathBuf;
 use std::rt::Files;
 
 /// Files by name with their texts, what was printed, and what was told on the standard error. The
-/// file `torn` opens and can't be read.
+/// file `torn` opens and can't be read, and that of the name `-` is the standard input.
 #[derive(Drop)]
 pub struct Machine<'a> {
     alloc: Global,
@@ -207,6 +207,27 @@ impl Alloc for Machine<'_> {
 
     fn alloc(&self) -> Global {
         self.alloc
+    }
+}
+
+impl<'a> Input for Machine<'a> {
+    type Reader = Cursor<&'a [u8]>;
+
+    fn read_line<A: Allocator + Clone>(&self, _buf: &mut String<A>) -> io::Result<usize> {
+        Err(unsupported())
+    }
+
+    fn lines<A: Allocator>(&self, alloc: A) -> Lines<Cursor<&'a [u8]>, A> {
+        self.reader().lines(alloc)
+    }
+
+    fn reader(&self) -> Cursor<&'a [u8]> {
+        for (name, text) in self.files {
+            if *name == "-" {
+                return Cursor::new(text.as_bytes());
+            }
+        }
+        Cursor::new(&[])
     }
 }
 

@@ -116,7 +116,7 @@ const ORDERS: &[Words] = &[
     ),
     Words(
         &["mps_tool", "run", "--strict", "a.protocol", "-"],
-        "Offline(Run { file: \"a.protocol\", script: \"/dev/stdin\", strict: true })",
+        "Offline(Run { file: \"a.protocol\", script: \"-\", strict: true })",
     ),
     Words(
         &["mps_tool", "same", "a.protocol", "a.script", "b.script"],

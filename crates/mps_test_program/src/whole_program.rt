@@ -59,6 +59,7 @@ const FILES: &[(&str, &str)] = &[
     ("words", WORDS),
     ("relay", RELAY),
     ("script", SCRIPT),
+    ("-", SCRIPT),
     ("loop", "roles a b ; rec X . a -> b : int . X"),
     ("choice", "roles a b ; a -> b { l : end , r : end }"),
     ("unguarded", "roles a b ; rec X . X"),
@@ -93,6 +94,13 @@ const RUNS: &[Row] = &[
         "",
         "refused write\n",
         4,
+    ),
+    Row(
+        &["mps_tool", "run", "relay", "-"],
+        1000,
+        "done 1\ndone 2 5\ndone 3\ndone 4 7\n",
+        "",
+        0,
     ),
     Row(&["mps_tool", "run", "relay", "empty"], 1000, "", "", 0),
     Row(
@@ -353,7 +361,7 @@ const CHECKS: &[Row] = &[
 ];
 
 // Does what the words say, on a machine without a network.
-fn obeyed<'a, R: Files + AllocGlobal + Print + Eprint>(
+fn obeyed<'a, R: Files + Input + AllocGlobal + Print + Eprint>(
     rt: &R,
     words: &'a [&'a str],
 ) -> Result<u8, ToolFault<'a>> {

@@ -17,9 +17,6 @@ use std::{env, io};
 // The version of the program.
 const VERSION: &str = "0.1.0";
 
-// The file that the system has for the standard input.
-const STANDARD_INPUT: &str = "/dev/stdin";
-
 // What is said of words of which one is no text.
 const NO_TEXT: &str = "error: a word is not UTF-8";
 
@@ -340,14 +337,9 @@ fn same_in<'a>(file: &'a str, found: &ArgMatches<'a>) -> Option<Task<'a>> {
     })
 }
 
-// The file that a word for a script names.
-fn named<'a>(word: &'a str) -> &'a str {
-    if word == "-" { STANDARD_INPUT } else { word }
-}
-
 // The task to run a script.
 fn run_in<'a>(file: &'a str, found: &ArgMatches<'a>) -> Option<Task<'a>> {
-    let script = named(found.get_str("SCRIPT")?);
+    let script = found.get_str("SCRIPT")?;
     let strict = found.get_flag("strict");
     Some(Task::Run {
         file,

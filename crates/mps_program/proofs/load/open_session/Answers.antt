@@ -1,4 +1,4 @@
-use Rattle.std.proofs.Common.{◌∙◌, Err, map, refl, ap}
+use Rattle.std.proofs.Common.{◌∙◌, Err, map, ap}
 use Rattle.mps_global.specs.Global.{plain as global_type}
 use Rattle.mps_local.specs.Local.{plain}
 use Rattle.mps_fidelity.specs.Fidelity.{AreOfOneProtocol}
