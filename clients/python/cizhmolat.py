@@ -16,6 +16,12 @@ was used before is answered as before, and nothing is run. So a client that bega
 noticing. A Role never does: when it first joins it asks the server which number is the newest, by `N undo 0`. No step has
 the number 0, so this changes nothing; and it is refused as `number` unless N is the newest number or the next one.
 
+A command is in the file too, from before it is sent until `ask`, or the method that gave it, returns its answer, or another
+command takes its place. However many programs end in between, the one that gives it again gets its answer. What a program
+did with an answer no file of this module knows. So one that may end between an answer and its own books first writes
+`newest + 1` there. Where `newest` is that number when it is started again, the command was run, and `standing` tells its
+step; where it is one less, it wasn't.
+
 A Role is used by one thread at a time. Only this module's own exceptions and ValueError, for words that no line can have,
 are raised; a refusal has the class of its name, such as NothingQueued, and the session is then as it was.
 
@@ -242,8 +248,9 @@ def pauses(least: float, most: float) -> Iterator[float]:
 class Numbers:
     """The newest number of a role, and the command under way, in a file.
 
-    The file has a line `SESSION ROLE NUMBER`, and a second one with the command that was given under the next number, as
-    long as its answer hasn't come. It is replaced as a whole. It is of one session: take another file for another one."""
+    The file has a line `SESSION ROLE NUMBER`, and a second one with the command that was given under the next number, until
+    its answer is returned or another command is given. It is replaced as a whole. It is of one session: take another file for
+    another one."""
 
     def __init__(self, path: str | os.PathLike[str] | None, owner: str) -> None:
         self.path, self.owner = path, owner
@@ -277,8 +284,8 @@ class Role:
     timeout          seconds until an answer that hasn't come counts as a broken connection
     patience         seconds for which a server that isn't there, and a role that is taken, are tried again
 
-    `resumed` has the command of an earlier run whose answer it didn't get, if that command was accepted. A program whose
-    first command is the same one gets that answer, and nothing is run a second time; with any other command it goes on."""
+    `resumed` has the command whose answer no program got, if that command was accepted. A program whose first command is the
+    same one gets that answer, and nothing is run a second time; with any other command it goes on."""
 
     def __init__(self, session: int, role: str, port: int, *, host: str = "127.0.0.1",
                  numbers: str | os.PathLike[str] | None = None, timeout: float = 30, patience: float = 10) -> None:
@@ -287,6 +294,7 @@ class Role:
         self._stream: io.BufferedRWPair | None = None
         self._numbers = Numbers(numbers, f"{session} {role}")
         self.resumed: Answered | None = None
+        self._newest = self._numbers.newest  # one more than in the file, while `resumed` has the command that is there
         self._is_settled = False  # whether the newest number is known
         try:
             self._settle()
@@ -376,7 +384,7 @@ class Role:
     @property
     def newest(self) -> int:
         """The newest number of the role's commands that was accepted."""
-        return self._numbers.newest
+        return self._newest
 
     def ask(self, command: str) -> str:
         """The answer to a command line, which is given without a number; refusals aren't raised."""
@@ -386,14 +394,15 @@ class Role:
             return self._exchange(command)
         if not self._is_settled:
             self._settle()
-        resumed, self.resumed = self.resumed, None
-        if resumed is not None and resumed.command == command:
-            return resumed.answer
-        newest, self._is_settled = self._numbers.newest, False
-        self._numbers.keep(newest, command)
-        answer = self._exchange(f"{newest + 1} {command}")
-        self._numbers.keep(newest if answer.startswith("refused ") else newest + 1)
-        self._is_settled = True
+        self._is_settled = False
+        if self.resumed is not None and self.resumed.command == command:
+            answer = self.resumed.answer
+        else:
+            self._numbers.keep(self._newest, command)
+            answer = self._exchange(f"{self._newest + 1} {command}")
+            self._newest += not answer.startswith("refused ")
+        self._numbers.keep(self._newest)
+        self.resumed, self._is_settled = None, True
         return answer
 
     def _read(self, command: str, form: str) -> re.Match[str]:
@@ -420,17 +429,19 @@ class Role:
 
     def _settle(self) -> None:
         """Finds out which number is the newest, and whether the command under way was accepted."""
-        first = self._numbers.newest + 1
-        for number in range(first, first + 1 if self._numbers.is_known else FULL + 2):
+        numbers = self._numbers
+        first = numbers.newest + 1
+        for number in range(first, first + 1 if numbers.is_known else FULL + 2):
             answer = self._exchange(f"{number} undo 0")
             if answer != "refused number":
                 break
         if answer == "refused nostep":
-            number -= 1
+            self._newest, self.resumed = number - 1, None
         else:
             answer = read(f"{number} undo 0", answer, r"(?:un)?done.*")[0]
-            self.resumed = Answered(self._numbers.command, answer)
-        self._numbers.keep(number)
+            self._newest, self.resumed = number, Answered(numbers.command, answer)
+        if self.resumed is None or self.resumed.command is None:
+            numbers.keep(self._newest)
         self._is_settled = True
 
     # --- The connection ---
