@@ -60,6 +60,11 @@ class NotUnderstood(Error):
     """What came is no answer to what was asked, so it isn't such a server that listens there."""
 
 
+class NotKept(Error):
+    """The file of numbers can't be read or written, as on a full disk. As with Unreachable, the command may have been run, or
+    not, and whoever gives it again has it run once."""
+
+
 class Refused(Error):
     """A command was refused, and the session is as it was."""
     word = ""
@@ -253,26 +258,41 @@ class Numbers:
     another one."""
 
     def __init__(self, path: str | os.PathLike[str] | None, owner: str) -> None:
-        self.path, self.owner = path, owner
+        self.path, self.owner = None if path is None else os.fspath(path), owner
         self.newest = 0
         self.command: str | None = None
-        self.is_known = path is not None and os.path.exists(path)
-        if path is not None and self.is_known:
-            with open(path, encoding="ascii") as file:
-                first, _, rest = file.read().partition("\n")
+        text = self._text()
+        self.is_known = text is not None
+        if text is not None:
+            first, _, rest = text.partition("\n")
             found = re.fullmatch(r"(\d+ \w+) (\d+)", first)
             if found is None or found[1] != owner:
-                raise ValueError(f"{os.fspath(path)} has no numbers of {owner}")
+                raise ValueError(f"{self.path} has no numbers of {owner}")
             self.newest, self.command = int(found[2]), rest.rstrip("\n") or None
 
     def keep(self, newest: int, command: str | None = None) -> None:
-        """Keeps the newest number, and the command under way."""
-        self.newest, self.command, self.is_known = newest, command, True
+        """Keeps the newest number, and the command under way. Where the file can't be written nothing has changed."""
         if self.path is not None:
-            beside = f"{os.fspath(self.path)}.new"
-            with open(beside, "w", encoding="ascii") as file:
-                file.write(f"{self.owner} {newest}\n" + (f"{command}\n" if command else ""))
-            os.replace(beside, self.path)
+            beside = f"{self.path}.new"
+            try:
+                with open(beside, "w", encoding="ascii") as file:
+                    file.write(f"{self.owner} {newest}\n" + (f"{command}\n" if command else ""))
+                os.replace(beside, self.path)
+            except OSError as error:
+                raise NotKept(f"{self.path} can't be written: {error}") from error
+        self.newest, self.command, self.is_known = newest, command, True
+
+    def _text(self) -> str | None:
+        """What is in the file, if there is one. A byte that isn't ASCII stands in no file of numbers."""
+        if self.path is None:
+            return None
+        try:
+            with open(self.path, encoding="ascii", errors="replace") as file:
+                return file.read()
+        except FileNotFoundError:
+            return None
+        except OSError as error:
+            raise NotKept(f"{self.path} can't be read: {error}") from error
 
 
 class Role:
