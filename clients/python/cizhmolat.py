@@ -9,7 +9,10 @@
 
 Each command that changes the session has a number. Where the connection breaks before the answer is there, the role joins
 again, and the same line is sent again: the server runs a number once, and gives the answer that was lost. All waiting is
-bounded: a join and what is sent again by `patience`, an answer by `timeout`, a receipt by its own `timeout`.
+bounded: a join by `patience`, an answer by `timeout`, and where the connection breaks before it, the join that follows and
+what is sent again by `patience` together. A receipt asks until its own `timeout` is over; all of it, with the last question,
+ends within `timeout` of the role after that. (The lookup of a host's name is bounded by the system.) After any exception
+during an answer, also one of a signal's handler, the next call joins again: no answer is taken for another line's.
 
 The newest number is kept in the file `numbers`, so that a program that is started again goes on from there. A number that
 was used before is answered as before, and nothing is run. So a client that began at 1 again would lose commands without
@@ -31,18 +34,20 @@ keeps.
 from __future__ import annotations
 
 import contextlib
-import io
 import json
+import math
 import os
 import re
 import socket
 import time
-from collections.abc import Iterator
-from typing import Any, NamedTuple, Union
+from collections.abc import Callable, Iterator
+from typing import Any, NamedTuple, TypeVar, Union
 
 Value = Union[bool, int, str]
+Made = TypeVar("Made")
 NAME = re.compile("(?!(?:roles|rec|end|int|bool|text|true|false)$)[a-z][a-z0-9_]{0,31}")
 TEXT = re.compile(r"[ !#-\[\]-~]{0,256}")
+ANSWER = re.compile(r"(?:done|undone|news|joined|refused)\b.*|\{.*\}")  # what any answer looks like
 QUESTIONS = ("news", "show")  # which change nothing, and have no number
 FULL = 100_000  # entries that a journal has at most
 
@@ -250,6 +255,43 @@ def pauses(least: float, most: float) -> Iterator[float]:
         least = min(2 * least, most)
 
 
+def left(until: float) -> float:
+    """The seconds that are left until then. There have to be some."""
+    seconds = until - time.monotonic()
+    if seconds <= 0:
+        raise TimeoutError("the time is over")
+    return seconds
+
+
+class Connection:
+    """A connection to a server, which answers each line with one."""
+
+    def __init__(self, address: tuple[str, int], until: float) -> None:
+        self._socket = socket.create_connection(address, timeout=left(until))
+        self._socket.setsockopt(socket.IPPROTO_TCP, socket.TCP_NODELAY, 1)
+
+    def close(self) -> None:
+        """Ends the connection."""
+        with contextlib.suppress(OSError):
+            self._socket.close()
+
+    def talk(self, line: str, until: float) -> str:
+        """The answer to a line, which has to be there until then."""
+        self._socket.settimeout(left(until))
+        self._socket.sendall(line.encode("ascii") + b"\n")
+        answer = bytearray()
+        while not answer.endswith(b"\n"):
+            self._socket.settimeout(left(until))  # for each piece, lest a server that trickles is waited for without end
+            piece = self._socket.recv(65536)
+            if not piece:
+                raise ConnectionError("the connection broke")
+            answer += piece
+        text = answer[:-1].decode("ascii", errors="replace")
+        if not text.isascii() or not ANSWER.fullmatch(text):
+            raise NotUnderstood(f"{bytes(answer[:100])!r}, to {line}")
+        return text
+
+
 class Numbers:
     """The newest number of a role, and the command under way, in a file.
 
@@ -302,7 +344,7 @@ class Role:
     port, host       where the server listens
     numbers          the file that keeps the newest number; where there is none it is found by asking for 1, 2, 3 and so on
     timeout          seconds until an answer that hasn't come counts as a broken connection
-    patience         seconds for which a server that isn't there, and a role that is taken, are tried again
+    patience         seconds for which a server that isn't there or doesn't answer, and a role that is taken, are tried again
 
     `resumed` has the command whose answer no program got, if that command was accepted. A program whose first command is the
     same one gets that answer, and nothing is run a second time; with any other command it goes on."""
@@ -311,13 +353,13 @@ class Role:
                  numbers: str | os.PathLike[str] | None = None, timeout: float = 30, patience: float = 10) -> None:
         self.session, self.role = count(session), name(role)
         self.address, self.timeout, self.patience = (host, port), timeout, patience
-        self._stream: io.BufferedRWPair | None = None
+        self._connection: Connection | None = None
         self._numbers = Numbers(numbers, f"{session} {role}")
         self.resumed: Answered | None = None
         self._newest = self._numbers.newest  # one more than in the file, while `resumed` has the command that is there
         self._is_settled = False  # whether the newest number is known
         try:
-            self._settle()
+            self._settle(math.inf)
         except BaseException:
             self.close()
             raise
@@ -330,10 +372,9 @@ class Role:
 
     def close(self) -> None:
         """Ends the connection, and so frees the role. The next command joins again."""
-        if self._stream is not None:
-            with contextlib.suppress(OSError):
-                self._stream.close()
-        self._stream = None
+        if self._connection is not None:
+            self._connection.close()
+        self._connection = None
 
     # --- Steps forward ---
 
@@ -347,7 +388,8 @@ class Role:
 
     def receive(self, peer: str, slot: str, timeout: float = 60) -> Received:
         """Receives the oldest value that waits from the peer, and keeps it in the slot. Where none waits the server is asked
-        again, with pauses that grow from 2 ms to 0.5 s; NothingQueued is raised when none has come in `timeout` seconds."""
+        again, with pauses that grow from 2 ms to 0.5 s; NothingQueued is raised when none has come in `timeout` seconds, and
+        Unreachable when the server didn't answer."""
         found = self._poll(f"recv {name(peer)} {name(slot)}", r'done (\d+) (true|false|-?\d+|"[^"]*")', timeout)
         return Received(int(found[1]), json.loads(found[2]))
 
@@ -392,6 +434,7 @@ class Role:
         try:
             return dict(json.loads(answer))
         except ValueError:
+            self.close()
             raise NotUnderstood(answer) from None
 
     def standing(self) -> Standing:
@@ -408,25 +451,37 @@ class Role:
 
     def ask(self, command: str) -> str:
         """The answer to a command line, which is given without a number; refusals aren't raised."""
+        return self._ask(command, math.inf)
+
+    def _ask(self, command: str, limit: float) -> str:
+        """The answer to a command line, for which nothing waits beyond the limit."""
         if "\n" in command or not command.isascii():
             raise ValueError(f"no line: {command!r}")
         if command.split(" ")[0] in QUESTIONS:
-            return self._exchange(command)
+            return self._exchange(command, limit)
         if not self._is_settled:
-            self._settle()
+            self._settle(limit)
         self._is_settled = False
         if self.resumed is not None and self.resumed.command == command:
             answer = self.resumed.answer
         else:
             self._numbers.keep(self._newest, command)
-            answer = self._exchange(f"{self._newest + 1} {command}")
+            answer = self._exchange(f"{self._newest + 1} {command}", limit)
             self._newest += not answer.startswith("refused ")
         self._numbers.keep(self._newest)
         self.resumed, self._is_settled = None, True
         return answer
 
     def _read(self, command: str, form: str) -> re.Match[str]:
-        return read(command, self.ask(command), form)
+        return self._understood(command, self.ask(command), form)
+
+    def _understood(self, command: str, answer: str, form: str) -> re.Match[str]:
+        """The parts of the answer. After one that isn't understood nothing that comes on this connection can be trusted."""
+        try:
+            return read(command, answer, form)
+        except NotUnderstood:
+            self.close()
+            raise
 
     def _step(self, command: str) -> int:
         return int(self._read(command, r"done (\d+)")[1])
@@ -438,21 +493,21 @@ class Role:
         """The answer to a command that is given again while it is refused because nothing waits."""
         until = time.monotonic() + timeout
         for pause in pauses(0.002, 0.5):
-            answer = self.ask(command)
-            left = until - time.monotonic()
-            if answer != "refused nothingqueued" or left <= 0:
+            answer = self._ask(command, until + self.timeout)
+            rest = until - time.monotonic()
+            if answer != "refused nothingqueued" or rest <= 0:
                 break
-            time.sleep(min(pause, left))
-        return read(command, answer, form)
+            time.sleep(min(pause, rest))
+        return self._understood(command, answer, form)
 
     # --- Numbers ---
 
-    def _settle(self) -> None:
+    def _settle(self, limit: float) -> None:
         """Finds out which number is the newest, and whether the command under way was accepted."""
         numbers = self._numbers
         first = numbers.newest + 1
         for number in range(first, first + 1 if numbers.is_known else FULL + 2):
-            answer = self._exchange(f"{number} undo 0")
+            answer = self._exchange(f"{number} undo 0", limit)
             if answer != "refused number":
                 break
         if answer == "refused nostep":
@@ -466,48 +521,47 @@ class Role:
 
     # --- The connection ---
 
-    def _exchange(self, line: str) -> str:
-        """The answer to a line, which is sent again where the connection breaks."""
-        until = None
+    def _exchange(self, line: str, limit: float) -> str:
+        """The answer to a line, which is sent again where the connection breaks. Nothing waits beyond the limit."""
+        try:
+            if self._connection is None:
+                self._patiently(self._join, limit)
+            try:
+                return self._talk(line, min(time.monotonic() + self.timeout, limit))
+            except OSError:
+                self.close()
+            return self._patiently(lambda until: self._talk(line, until), limit)
+        except BaseException:  # also one of a signal's handler: the answer that may still come is no other line's
+            self.close()
+            raise
+
+    def _patiently(self, act: Callable[[float], Made], limit: float) -> Made:
+        """What the act comes to, which is told until when it may wait, and is tried again until patience runs out."""
+        end = min(time.monotonic() + self.patience, limit)
         for pause in pauses(0.01, 0.5):
             try:
-                stream = self._stream or self._join()
-                return self._talk(stream, line)
+                return act(min(time.monotonic() + self.timeout, end))
             except (OSError, Taken) as error:
                 self.close()
-                until = until or time.monotonic() + self.patience
-                if time.monotonic() + pause > until:
+                if time.monotonic() + pause > end:
                     if isinstance(error, Taken):
                         raise
                     raise Unreachable(f"no server answers at {self.address[0]}:{self.address[1]}: {error}") from error
             time.sleep(pause)
         raise AssertionError
 
-    def _join(self) -> io.BufferedRWPair:
-        """A connection that acts for the role."""
-        connection = socket.create_connection(self.address, timeout=self.timeout)
-        with connection:  # which the stream keeps open
-            connection.setsockopt(socket.IPPROTO_TCP, socket.TCP_NODELAY, 1)
-            stream = connection.makefile("rwb")
+    def _join(self, until: float) -> Connection:
+        """A connection that acts for the role, from now on this Role's."""
+        connection = Connection(self.address, until)
+        line = f"join {self.session} {self.role}"
         try:
-            line = f"join {self.session} {self.role}"
-            read(line, self._talk(stream, line), f"joined {self.session} {self.role}")
+            read(line, connection.talk(line, until), f"joined {self.session} {self.role}")
         except BaseException:
-            with contextlib.suppress(OSError):
-                stream.close()
+            connection.close()
             raise
-        self._stream = stream
-        return stream
+        self._connection = connection
+        return connection
 
-    @staticmethod
-    def _talk(stream: io.BufferedRWPair, line: str) -> str:
-        """The answer to a line on this connection."""
-        stream.write(line.encode("ascii") + b"\n")
-        stream.flush()
-        answer = stream.readline()
-        if not answer.endswith(b"\n"):
-            raise ConnectionError("the connection broke")
-        try:
-            return answer[:-1].decode("ascii")
-        except UnicodeDecodeError:
-            raise NotUnderstood(repr(answer)) from None
+    def _talk(self, line: str, until: float) -> str:
+        """The answer to a line on this Role's connection, or on a new one."""
+        return (self._connection or self._join(until)).talk(line, until)
