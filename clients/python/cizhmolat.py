@@ -75,8 +75,11 @@ class Refused(Error):
     word = ""
 
     def __init__(self, answer: str, command: str, step: int | None = None) -> None:
-        super().__init__(f"{answer}: {command}")
+        super().__init__(answer, command, step)  # of which pickle and copy make it again
         self.answer, self.command, self.step = answer, command, step
+
+    def __str__(self) -> str:
+        return f"{self.answer}: {self.command}"
 
 
 class Ended(Refused):
