@@ -11,8 +11,9 @@ Each command that changes the session has a number. Where the connection breaks 
 again, and the same line is sent again: the server runs a number once, and gives the answer that was lost. All waiting is
 bounded: a join by `patience`, an answer by `timeout`, and where the connection breaks before it, the join that follows and
 what is sent again by `patience` together. A receipt asks until its own `timeout` is over; all of it, with the last question,
-ends within `timeout` of the role after that. (The lookup of a host's name is bounded by the system.) After any exception
-during an answer, also one of a signal's handler, the next call joins again: no answer is taken for another line's.
+ends within `timeout` of the role after that. (The lookup of a host's name is bounded by the system, and each of its addresses
+is given that time.) After an exception during an answer, also one of a signal's handler, the next call joins again: no answer
+is taken for another line's. An OSError of a handler, such as TimeoutError, counts as a broken connection.
 
 The newest number is kept in the file `numbers`, so that a program that is started again goes on from there. A number that
 was used before is answered as before, and nothing is run. So a client that began at 1 again would lose commands without
@@ -25,8 +26,9 @@ did with an answer no file of this module knows. So one that may end between an 
 `newest + 1` there. Where `newest` is that number when it is started again, the command was run, and `standing` tells its
 step; where it is one less, it wasn't.
 
-A Role is used by one thread at a time. Only this module's own exceptions and ValueError, for words that no line can have,
-are raised; a refusal has the class of its name, such as NothingQueued, and the session is then as it was.
+A Role is used by one thread at a time. Only this module's own exceptions and ValueError, for words that no line can have, no
+port and a file of another role, are raised; a refusal has the class of its name, such as NothingQueued, and the session is
+then as it was.
 
 A program that is started again asks `standing`, which says what the protocol wants of the role next, and which values it
 keeps.
@@ -57,8 +59,8 @@ class Error(Exception):
 
 
 class Unreachable(Error):
-    """No server was there, or none answered, until patience ran out. The command may have been run, or not. Give it again,
-    and it is run once, also by the next Role with the same file of numbers."""
+    """No server was there, or none answered, until patience or a receipt's time ran out. The command may have been run, or
+    not. Give it again, and it is run once, also by the next Role with the same file of numbers."""
 
 
 class NotUnderstood(Error):
@@ -347,7 +349,8 @@ class Role:
     port, host       where the server listens
     numbers          the file that keeps the newest number; where there is none it is found by asking for 1, 2, 3 and so on
     timeout          seconds until an answer that hasn't come counts as a broken connection
-    patience         seconds for which a server that isn't there or doesn't answer, and a role that is taken, are tried again
+    patience         seconds for which a server that isn't there or doesn't answer, and a role that is taken, are tried again;
+                     with 0 there is one try, for `timeout`
 
     `resumed` has the command whose answer no program got, if that command was accepted. A program whose first command is the
     same one gets that answer, and nothing is run a second time; with any other command it goes on."""
@@ -355,6 +358,8 @@ class Role:
     def __init__(self, session: int, role: str, port: int, *, host: str = "127.0.0.1",
                  numbers: str | os.PathLike[str] | None = None, timeout: float = 30, patience: float = 10) -> None:
         self.session, self.role = count(session), name(role)
+        if not 0 <= port < 2 ** 16:
+            raise ValueError(f"no port: {port!r}")
         self.address, self.timeout, self.patience = (host, port), timeout, patience
         self._connection: Connection | None = None
         self._numbers = Numbers(numbers, f"{session} {role}")
@@ -470,7 +475,8 @@ class Role:
         else:
             self._numbers.keep(self._newest, command)
             answer = self._exchange(f"{self._newest + 1} {command}", limit)
-            self._newest += not answer.startswith("refused ")
+            if not answer.startswith("refused "):
+                self._newest += 1
         self._numbers.keep(self._newest)
         self.resumed, self._is_settled = None, True
         return answer
@@ -516,7 +522,7 @@ class Role:
         if answer == "refused nostep":
             self._newest, self.resumed = number - 1, None
         else:
-            answer = read(f"{number} undo 0", answer, r"(?:un)?done.*")[0]
+            self._understood(f"{number} undo 0", answer, r"(?:un)?done.*")
             self._newest, self.resumed = number, Answered(numbers.command, answer)
         if self.resumed is None or self.resumed.command is None:
             numbers.keep(self._newest)
@@ -543,7 +549,7 @@ class Role:
         end = min(time.monotonic() + self.patience, limit)
         for pause in pauses(0.01, 0.5):
             try:
-                return act(min(time.monotonic() + self.timeout, end))
+                return act(min(time.monotonic() + self.timeout, end if self.patience else limit))
             except (OSError, Taken) as error:
                 self.close()
                 if time.monotonic() + pause > end:
