@@ -23,8 +23,9 @@ the number 0, so this changes nothing; and it is refused as `number` unless N is
 A command is in the file too, from before it is sent until `ask`, or the method that gave it, returns its answer, or another
 command takes its place. However many programs end in between, the one that gives it again gets its answer. What a program
 did with an answer no file of this module knows. So one that may end between an answer and its own books first writes
-`newest + 1` there. Where `newest` is that number when it is started again, the command was run, and `standing` tells its
-step; where it is one less, it wasn't.
+`newest + 1` there. When it is started again it gives the command again, unless `newest` has reached that number and `resumed`
+is None: then it had the answer, and `standing` tells the step. After an exception of a signal's handler it does the same,
+with a new Role.
 
 A Role is used by one thread at a time. Only this module's own exceptions and ValueError, for words that no line can have, no
 port and a file of another role, are raised; a refusal has the class of its name, such as NothingQueued, and the session is
@@ -470,15 +471,15 @@ class Role:
         if not self._is_settled:
             self._settle(limit)
         self._is_settled = False
+        newest = self._newest
         if self.resumed is not None and self.resumed.command == command:
             answer = self.resumed.answer
         else:
-            self._numbers.keep(self._newest, command)
-            answer = self._exchange(f"{self._newest + 1} {command}", limit)
-            if not answer.startswith("refused "):
-                self._newest += 1
-        self._numbers.keep(self._newest)
-        self.resumed, self._is_settled = None, True
+            self._numbers.keep(newest, command)
+            answer = self._exchange(f"{newest + 1} {command}", limit)
+            newest += 0 if answer.startswith("refused ") else 1
+        self._numbers.keep(newest)
+        self._newest, self.resumed, self._is_settled = newest, None, True
         return answer
 
     def _read(self, command: str, form: str) -> re.Match[str]:
