@@ -8,7 +8,7 @@ newest command, so that a client that is started again goes on from there: where
 it comes when that command is given again. Without FILE the server is asked for the number.
 
 It ends with 0 at the end of the input, and with 1, after saying why on standard error, where it isn't used like this, can't
-join, loses the server, can't keep FILE, or can't print an answer."""
+join, loses the server, can't keep FILE, or can't print an answer, which it says too."""
 import os
 import pathlib
 import sys
@@ -28,7 +28,7 @@ def show(text):
         print(text, flush=True)
     except OSError as error:
         os.dup2(os.open(os.devnull, os.O_WRONLY), sys.stdout.fileno())  # lest python tries again at its end
-        sys.exit(f"an answer can't be written: {error}")
+        sys.exit(f"can't print the answer {text}: {error}")
 
 
 def main():
@@ -38,7 +38,7 @@ def main():
     try:
         with Role(int(session), role, int(port), numbers=file[0] if file else None) as it:
             for line in sys.stdin.buffer:
-                show(answer(it, line.removesuffix(b"\n")))
+                show(answer(it, line.rstrip(b"\n")))
     except (Error, ValueError) as error:
         sys.exit(str(error))
 
