@@ -306,8 +306,8 @@ class Numbers:
     another one."""
 
     def __init__(self, path: str | os.PathLike[str] | None, owner: str) -> None:
-        self.path, self.owner = None if path is None else os.fspath(path), owner
-        self.newest = 0
+        self.path = None if path is None else os.fsdecode(path)
+        self.owner, self.newest = owner, 0
         self.command: str | None = None
         text = self._text()
         self.is_known = text is not None
