@@ -49,17 +49,21 @@ class BadProtocol(Error):
     place    the byte of a fault of the text, the choice of a projection's, and else 0"""
 
     def __init__(self, number: int, place: int) -> None:
+        super().__init__(number, place)  # of which pickle and copy make it again
         self.number, self.place = number, place
         if number < 32:
             self.word = TEXTS[number - 16]
-            told = f"text {self.word} {place}"
         elif number < 48:
             self.word = PROTOCOLS[number - 32]
-            told = f"protocol {self.word}"
         else:
             self.word = "projection"
-            told = f"projection of role number {number - 48}, choice {place}"
-        super().__init__(told)
+
+    def __str__(self) -> str:
+        if self.number < 32:
+            return f"text {self.word} {self.place}"
+        if self.number < 48:
+            return f"protocol {self.word}"
+        return f"projection of role number {self.number - 48}, choice {self.place}"
 
 
 class NoMemory(Error):

@@ -9,15 +9,27 @@
 
 Each command that changes the session has a number. Where the connection breaks before the answer is there, the role joins
 again, and the same line is sent again: the server runs a number once, and gives the answer that was lost. All waiting is
-bounded: a join and what is sent again by `patience`, an answer by `timeout`, a receipt by its own `timeout`.
+bounded: a join by `patience`, an answer by `timeout`, and where the connection breaks before it, the join that follows and
+what is sent again by `patience` together. A receipt asks until its own `timeout` is over; all of it, with the last question,
+ends within `timeout` of the role after that. (The lookup of a host's name is bounded by the system, and each of its addresses
+is given that time.) After an exception during an answer, also one of a signal's handler, the next call joins again: no answer
+is taken for another line's. An OSError of a handler, such as TimeoutError, counts as a broken connection.
 
 The newest number is kept in the file `numbers`, so that a program that is started again goes on from there. A number that
 was used before is answered as before, and nothing is run. So a client that began at 1 again would lose commands without
 noticing. A Role never does: when it first joins it asks the server which number is the newest, by `N undo 0`. No step has
 the number 0, so this changes nothing; and it is refused as `number` unless N is the newest number or the next one.
 
-A Role is used by one thread at a time. Only this module's own exceptions and ValueError, for words that no line can have,
-are raised; a refusal has the class of its name, such as NothingQueued, and the session is then as it was.
+A command is in the file too, from before it is sent until `ask`, or the method that gave it, returns its answer, or another
+command takes its place. However many programs end in between, the one that gives it again gets its answer. What a program
+did with an answer no file of this module knows. So one that may end between an answer and its own books first writes
+`newest + 1` there. When it is started again it gives the command again, unless `newest` has reached that number and `resumed`
+is None: then it had the answer, and `standing` tells the step. After an exception of a signal's handler it does the same,
+with a new Role.
+
+A Role is used by one thread at a time. Only this module's own exceptions and ValueError, for words that no line can have, no
+port and a file of another role, are raised; a refusal has the class of its name, such as NothingQueued, and the session is
+then as it was.
 
 A program that is started again asks `standing`, which says what the protocol wants of the role next, and which values it
 keeps.
@@ -25,18 +37,20 @@ keeps.
 from __future__ import annotations
 
 import contextlib
-import io
 import json
+import math
 import os
 import re
 import socket
 import time
-from collections.abc import Iterator
-from typing import Any, NamedTuple, Union
+from collections.abc import Callable, Iterator
+from typing import Any, NamedTuple, TypeVar, Union
 
 Value = Union[bool, int, str]
+Made = TypeVar("Made")
 NAME = re.compile("(?!(?:roles|rec|end|int|bool|text|true|false)$)[a-z][a-z0-9_]{0,31}")
 TEXT = re.compile(r"[ !#-\[\]-~]{0,256}")
+ANSWER = re.compile(r"(?:done|undone|news|joined|refused)\b.*|\{.*\}")  # what any answer looks like
 QUESTIONS = ("news", "show")  # which change nothing, and have no number
 FULL = 100_000  # entries that a journal has at most
 
@@ -46,12 +60,17 @@ class Error(Exception):
 
 
 class Unreachable(Error):
-    """No server was there, or none answered, until patience ran out. The command may have been run, or not. Give it again,
-    and it is run once, also by the next Role with the same file of numbers."""
+    """No server was there, or none answered, until patience or a receipt's time ran out. The command may have been run, or
+    not. Give it again, and it is run once, also by the next Role with the same file of numbers."""
 
 
 class NotUnderstood(Error):
     """What came is no answer to what was asked, so it isn't such a server that listens there."""
+
+
+class NotKept(Error):
+    """The file of numbers can't be read or written, as on a full disk. As with Unreachable, the command may have been run, or
+    not, and whoever gives it again has it run once."""
 
 
 class Refused(Error):
@@ -59,8 +78,11 @@ class Refused(Error):
     word = ""
 
     def __init__(self, answer: str, command: str, step: int | None = None) -> None:
-        super().__init__(f"{answer}: {command}")
+        super().__init__(answer, command, step)  # of which pickle and copy make it again
         self.answer, self.command, self.step = answer, command, step
+
+    def __str__(self) -> str:
+        return f"{self.answer}: {self.command}"
 
 
 class Ended(Refused):
@@ -239,33 +261,86 @@ def pauses(least: float, most: float) -> Iterator[float]:
         least = min(2 * least, most)
 
 
+def left(until: float) -> float:
+    """The seconds that are left until then. There have to be some."""
+    seconds = until - time.monotonic()
+    if seconds <= 0:
+        raise TimeoutError("the time is over")
+    return seconds
+
+
+class Connection:
+    """A connection to a server, which answers each line with one."""
+
+    def __init__(self, address: tuple[str, int], until: float) -> None:
+        self._socket = socket.create_connection(address, timeout=left(until))
+        self._socket.setsockopt(socket.IPPROTO_TCP, socket.TCP_NODELAY, 1)
+
+    def close(self) -> None:
+        """Ends the connection."""
+        with contextlib.suppress(OSError):
+            self._socket.close()
+
+    def talk(self, line: str, until: float) -> str:
+        """The answer to a line, which has to be there until then."""
+        self._socket.settimeout(left(until))
+        self._socket.sendall(line.encode("ascii") + b"\n")
+        answer = bytearray()
+        while not answer.endswith(b"\n"):
+            self._socket.settimeout(left(until))  # for each piece, lest a server that trickles is waited for without end
+            piece = self._socket.recv(65536)
+            if not piece:
+                raise ConnectionError("the connection broke")
+            answer += piece
+        text = answer[:-1].decode("ascii", errors="replace")
+        if not text.isascii() or not ANSWER.fullmatch(text):
+            raise NotUnderstood(f"{bytes(answer[:100])!r}, to {line}")
+        return text
+
+
 class Numbers:
     """The newest number of a role, and the command under way, in a file.
 
-    The file has a line `SESSION ROLE NUMBER`, and a second one with the command that was given under the next number, as
-    long as its answer hasn't come. It is replaced as a whole. It is of one session: take another file for another one."""
+    The file has a line `SESSION ROLE NUMBER`, and a second one with the command that was given under the next number, until
+    its answer is returned or another command is given. It is replaced as a whole. It is of one session: take another file for
+    another one."""
 
     def __init__(self, path: str | os.PathLike[str] | None, owner: str) -> None:
-        self.path, self.owner = path, owner
-        self.newest = 0
+        self.path = None if path is None else os.fsdecode(path)
+        self.owner, self.newest = owner, 0
         self.command: str | None = None
-        self.is_known = path is not None and os.path.exists(path)
-        if path is not None and self.is_known:
-            with open(path, encoding="ascii") as file:
-                first, _, rest = file.read().partition("\n")
+        text = self._text()
+        self.is_known = text is not None
+        if text is not None:
+            first, _, rest = text.partition("\n")
             found = re.fullmatch(r"(\d+ \w+) (\d+)", first)
             if found is None or found[1] != owner:
-                raise ValueError(f"{os.fspath(path)} has no numbers of {owner}")
+                raise ValueError(f"{self.path} has no numbers of {owner}")
             self.newest, self.command = int(found[2]), rest.rstrip("\n") or None
 
     def keep(self, newest: int, command: str | None = None) -> None:
-        """Keeps the newest number, and the command under way."""
-        self.newest, self.command, self.is_known = newest, command, True
+        """Keeps the newest number, and the command under way. Where the file can't be written nothing has changed."""
         if self.path is not None:
-            beside = f"{os.fspath(self.path)}.new"
-            with open(beside, "w", encoding="ascii") as file:
-                file.write(f"{self.owner} {newest}\n" + (f"{command}\n" if command else ""))
-            os.replace(beside, self.path)
+            beside = f"{self.path}.new"
+            try:
+                with open(beside, "w", encoding="ascii") as file:
+                    file.write(f"{self.owner} {newest}\n" + (f"{command}\n" if command else ""))
+                os.replace(beside, self.path)
+            except OSError as error:
+                raise NotKept(f"{self.path} can't be written: {error}") from error
+        self.newest, self.command, self.is_known = newest, command, True
+
+    def _text(self) -> str | None:
+        """What is in the file, if there is one. A byte that isn't ASCII stands in no file of numbers."""
+        if self.path is None:
+            return None
+        try:
+            with open(self.path, encoding="ascii", errors="replace") as file:
+                return file.read()
+        except FileNotFoundError:
+            return None
+        except OSError as error:
+            raise NotKept(f"{self.path} can't be read: {error}") from error
 
 
 class Role:
@@ -275,21 +350,25 @@ class Role:
     port, host       where the server listens
     numbers          the file that keeps the newest number; where there is none it is found by asking for 1, 2, 3 and so on
     timeout          seconds until an answer that hasn't come counts as a broken connection
-    patience         seconds for which a server that isn't there, and a role that is taken, are tried again
+    patience         seconds for which a server that isn't there or doesn't answer, and a role that is taken, are tried again;
+                     with 0 there is one try, for `timeout`
 
-    `resumed` has the command of an earlier run whose answer it didn't get, if that command was accepted. A program whose
-    first command is the same one gets that answer, and nothing is run a second time; with any other command it goes on."""
+    `resumed` has the command whose answer no program got, if that command was accepted. A program whose first command is the
+    same one gets that answer, and nothing is run a second time; with any other command it goes on."""
 
     def __init__(self, session: int, role: str, port: int, *, host: str = "127.0.0.1",
                  numbers: str | os.PathLike[str] | None = None, timeout: float = 30, patience: float = 10) -> None:
         self.session, self.role = count(session), name(role)
+        if not 0 <= port < 2 ** 16:
+            raise ValueError(f"no port: {port!r}")
         self.address, self.timeout, self.patience = (host, port), timeout, patience
-        self._stream: io.BufferedRWPair | None = None
+        self._connection: Connection | None = None
         self._numbers = Numbers(numbers, f"{session} {role}")
         self.resumed: Answered | None = None
+        self._newest = self._numbers.newest  # one more than in the file, while `resumed` has the command that is there
         self._is_settled = False  # whether the newest number is known
         try:
-            self._settle()
+            self._settle(math.inf)
         except BaseException:
             self.close()
             raise
@@ -302,10 +381,9 @@ class Role:
 
     def close(self) -> None:
         """Ends the connection, and so frees the role. The next command joins again."""
-        if self._stream is not None:
-            with contextlib.suppress(OSError):
-                self._stream.close()
-        self._stream = None
+        if self._connection is not None:
+            self._connection.close()
+        self._connection = None
 
     # --- Steps forward ---
 
@@ -319,7 +397,8 @@ class Role:
 
     def receive(self, peer: str, slot: str, timeout: float = 60) -> Received:
         """Receives the oldest value that waits from the peer, and keeps it in the slot. Where none waits the server is asked
-        again, with pauses that grow from 2 ms to 0.5 s; NothingQueued is raised when none has come in `timeout` seconds."""
+        again, with pauses that grow from 2 ms to 0.5 s; NothingQueued is raised when none has come in `timeout` seconds, and
+        Unreachable when the server didn't answer."""
         found = self._poll(f"recv {name(peer)} {name(slot)}", r'done (\d+) (true|false|-?\d+|"[^"]*")', timeout)
         return Received(int(found[1]), json.loads(found[2]))
 
@@ -364,6 +443,7 @@ class Role:
         try:
             return dict(json.loads(answer))
         except ValueError:
+            self.close()
             raise NotUnderstood(answer) from None
 
     def standing(self) -> Standing:
@@ -376,28 +456,42 @@ class Role:
     @property
     def newest(self) -> int:
         """The newest number of the role's commands that was accepted."""
-        return self._numbers.newest
+        return self._newest
 
     def ask(self, command: str) -> str:
         """The answer to a command line, which is given without a number; refusals aren't raised."""
+        return self._ask(command, math.inf)
+
+    def _ask(self, command: str, limit: float) -> str:
+        """The answer to a command line, for which nothing waits beyond the limit."""
         if "\n" in command or not command.isascii():
             raise ValueError(f"no line: {command!r}")
         if command.split(" ")[0] in QUESTIONS:
-            return self._exchange(command)
+            return self._exchange(command, limit)
         if not self._is_settled:
-            self._settle()
-        resumed, self.resumed = self.resumed, None
-        if resumed is not None and resumed.command == command:
-            return resumed.answer
-        newest, self._is_settled = self._numbers.newest, False
-        self._numbers.keep(newest, command)
-        answer = self._exchange(f"{newest + 1} {command}")
-        self._numbers.keep(newest if answer.startswith("refused ") else newest + 1)
-        self._is_settled = True
+            self._settle(limit)
+        self._is_settled = False
+        newest = self._newest
+        if self.resumed is not None and self.resumed.command == command:
+            answer = self.resumed.answer
+        else:
+            self._numbers.keep(newest, command)
+            answer = self._exchange(f"{newest + 1} {command}", limit)
+            newest += 0 if answer.startswith("refused ") else 1
+        self._numbers.keep(newest)
+        self._newest, self.resumed, self._is_settled = newest, None, True
         return answer
 
     def _read(self, command: str, form: str) -> re.Match[str]:
-        return read(command, self.ask(command), form)
+        return self._understood(command, self.ask(command), form)
+
+    def _understood(self, command: str, answer: str, form: str) -> re.Match[str]:
+        """The parts of the answer. After one that isn't understood nothing that comes on this connection can be trusted."""
+        try:
+            return read(command, answer, form)
+        except NotUnderstood:
+            self.close()
+            raise
 
     def _step(self, command: str) -> int:
         return int(self._read(command, r"done (\d+)")[1])
@@ -409,74 +503,75 @@ class Role:
         """The answer to a command that is given again while it is refused because nothing waits."""
         until = time.monotonic() + timeout
         for pause in pauses(0.002, 0.5):
-            answer = self.ask(command)
-            left = until - time.monotonic()
-            if answer != "refused nothingqueued" or left <= 0:
+            answer = self._ask(command, until + self.timeout)
+            rest = until - time.monotonic()
+            if answer != "refused nothingqueued" or rest <= 0:
                 break
-            time.sleep(min(pause, left))
-        return read(command, answer, form)
+            time.sleep(min(pause, rest))
+        return self._understood(command, answer, form)
 
     # --- Numbers ---
 
-    def _settle(self) -> None:
+    def _settle(self, limit: float) -> None:
         """Finds out which number is the newest, and whether the command under way was accepted."""
-        first = self._numbers.newest + 1
-        for number in range(first, first + 1 if self._numbers.is_known else FULL + 2):
-            answer = self._exchange(f"{number} undo 0")
+        numbers = self._numbers
+        first = numbers.newest + 1
+        for number in range(first, first + 1 if numbers.is_known else FULL + 2):
+            answer = self._exchange(f"{number} undo 0", limit)
             if answer != "refused number":
                 break
         if answer == "refused nostep":
-            number -= 1
+            self._newest, self.resumed = number - 1, None
         else:
-            answer = read(f"{number} undo 0", answer, r"(?:un)?done.*")[0]
-            self.resumed = Answered(self._numbers.command, answer)
-        self._numbers.keep(number)
+            self._understood(f"{number} undo 0", answer, r"(?:un)?done.*")
+            self._newest, self.resumed = number, Answered(numbers.command, answer)
+        if self.resumed is None or self.resumed.command is None:
+            numbers.keep(self._newest)
         self._is_settled = True
 
     # --- The connection ---
 
-    def _exchange(self, line: str) -> str:
-        """The answer to a line, which is sent again where the connection breaks."""
-        until = None
+    def _exchange(self, line: str, limit: float) -> str:
+        """The answer to a line, which is sent again where the connection breaks. Nothing waits beyond the limit."""
+        try:
+            if self._connection is None:
+                self._patiently(self._join, limit)
+            try:
+                return self._talk(line, min(time.monotonic() + self.timeout, limit))
+            except OSError:
+                self.close()
+            return self._patiently(lambda until: self._talk(line, until), limit)
+        except BaseException:  # also one of a signal's handler: the answer that may still come is no other line's
+            self.close()
+            raise
+
+    def _patiently(self, act: Callable[[float], Made], limit: float) -> Made:
+        """What the act comes to, which is told until when it may wait, and is tried again until patience runs out."""
+        end = min(time.monotonic() + self.patience, limit)
         for pause in pauses(0.01, 0.5):
             try:
-                stream = self._stream or self._join()
-                return self._talk(stream, line)
+                return act(min(time.monotonic() + self.timeout, end if self.patience else limit))
             except (OSError, Taken) as error:
                 self.close()
-                until = until or time.monotonic() + self.patience
-                if time.monotonic() + pause > until:
+                if time.monotonic() + pause > end:
                     if isinstance(error, Taken):
                         raise
                     raise Unreachable(f"no server answers at {self.address[0]}:{self.address[1]}: {error}") from error
             time.sleep(pause)
         raise AssertionError
 
-    def _join(self) -> io.BufferedRWPair:
-        """A connection that acts for the role."""
-        connection = socket.create_connection(self.address, timeout=self.timeout)
-        with connection:  # which the stream keeps open
-            connection.setsockopt(socket.IPPROTO_TCP, socket.TCP_NODELAY, 1)
-            stream = connection.makefile("rwb")
+    def _join(self, until: float) -> Connection:
+        """A connection that acts for the role, from now on this Role's."""
+        connection = Connection(self.address, until)
+        line = f"join {self.session} {self.role}"
         try:
-            line = f"join {self.session} {self.role}"
-            read(line, self._talk(stream, line), f"joined {self.session} {self.role}")
+            read(line, connection.talk(line, until), f"joined {self.session} {self.role}")
         except BaseException:
-            with contextlib.suppress(OSError):
-                stream.close()
+            connection.close()
             raise
-        self._stream = stream
-        return stream
+        self._connection = connection
+        return connection
 
-    @staticmethod
-    def _talk(stream: io.BufferedRWPair, line: str) -> str:
-        """The answer to a line on this connection."""
-        stream.write(line.encode("ascii") + b"\n")
-        stream.flush()
-        answer = stream.readline()
-        if not answer.endswith(b"\n"):
-            raise ConnectionError("the connection broke")
-        try:
-            return answer[:-1].decode("ascii")
-        except UnicodeDecodeError:
-            raise NotUnderstood(repr(answer)) from None
+    def _talk(self, line: str, until: float) -> str:
+        """The answer to a line on this Role's connection, or on a new one."""
+        return (self._connection or self._join(until)).talk(line, until)

@@ -4,14 +4,15 @@
 usage: relay.py PORT SESSION
 
 a gives b a number, and b gives c one. Then a finds that its number was wrong, and rolls its step back with all that came
-of it, and b and c hear which of their steps went."""
+of it, and b and c hear which of their steps went. On the same session it may be run again. It ends with 1 where it can't join,
+or is refused."""
 import multiprocessing
 import pathlib
 import sys
 import time
 
 sys.path.insert(0, str(pathlib.Path(__file__).resolve().parent.parent.parent / "clients" / "python"))
-from cizhmolat import Role  # noqa: E402
+from cizhmolat import Error, Role  # noqa: E402
 
 PAUSE = 0.05  # seconds between two questions
 
@@ -25,19 +26,21 @@ def a(role):
 
 
 def b(role):
+    entries = role.news().entries
     yield "received {1} in step {0}".format(*role.receive("a", "x"))
     yield f"sent 7 in step {role.send('c', 7)}"
-    yield f"lost {lost(role)}"
+    yield f"lost {lost(role, entries)}"
 
 
 def c(role):
+    entries = role.news().entries
     yield "received {1} in step {0}".format(*role.receive("b", "y"))
-    yield f"lost {lost(role)}"
+    yield f"lost {lost(role, entries)}"
 
 
-def lost(role):
-    """The steps that others took back, as soon as there are some."""
-    while not (news := role.news()).gone:
+def lost(role, entries):
+    """The steps that others took back after so many entries of the journal, as soon as there are some."""
+    while not (news := role.news(entries)).gone:
         time.sleep(PAUSE)
     return news.gone
 
@@ -52,6 +55,9 @@ if __name__ == "__main__":
         sys.exit(__doc__)
     with multiprocessing.Pool(3) as pool:
         played = [pool.apply_async(play, (*map(int, sys.argv[1:]), part)) for part in (a, b, c)]
-        for role, told in zip("abc", played):
-            for line in told.get(timeout=60):
-                print(f"{role} {line}")
+        try:
+            for role, told in zip("abc", played):
+                for line in told.get(timeout=60):
+                    print(f"{role} {line}")
+        except Error as error:
+            sys.exit(str(error))

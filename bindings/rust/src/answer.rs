@@ -286,6 +286,11 @@ impl fmt::Display for NoValue {
 
 impl StdError for NoValue {}
 
+/// Whether the byte may stand between the quotes of a text.
+fn is_of_a_text(byte: u8) -> bool {
+    matches!(byte, b' '..=b'~') && byte != b'"' && byte != b'\\'
+}
+
 impl FromStr for Value {
     type Err = NoValue;
 
@@ -300,7 +305,10 @@ impl FromStr for Value {
             .strip_prefix('"')
             .and_then(|rest| rest.strip_suffix('"'))
         {
-            return Ok(Value::Text(inner.to_owned()));
+            let is_text = inner.len() <= 256 && inner.bytes().all(is_of_a_text);
+            return is_text
+                .then(|| Value::Text(inner.to_owned()))
+                .ok_or(NoValue);
         }
         let digits = text.strip_prefix('-').unwrap_or(text);
         let is_spelled =

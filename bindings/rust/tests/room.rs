@@ -75,8 +75,40 @@ fn each_sort_of_a_value() {
             Ok(Answer::Received(step + 1, value))
         );
     }
-    for text in ["+5", "007", "-0", "-", "", "x", "9223372036854775808"] {
+    for text in [
+        "+5",
+        "007",
+        "-0",
+        "-",
+        "",
+        "x",
+        "9223372036854775808",
+        "\"",
+        "\"a",
+        "a\"",
+    ] {
         assert!(text.parse::<Value>().is_err(), "{text}");
+    }
+    for inner in [
+        "\"",
+        "a\"b",
+        "\\",
+        "\u{e9}",
+        "\n",
+        "\x1f",
+        "\x7f",
+        &"x".repeat(257),
+    ] {
+        assert!(
+            format!("\"{inner}\"").parse::<Value>().is_err(),
+            "{inner:?}"
+        );
+    }
+    for inner in ["", " ", "a ~ b", &"x".repeat(256)] {
+        assert_eq!(
+            format!("\"{inner}\"").parse(),
+            Ok(Value::Text(inner.into()))
+        );
     }
 }
 
