@@ -101,6 +101,8 @@ def main():
     order, words = sys.argv[1], sys.argv[2:]
     if order in USES and not may_follow(order, words):
         raise building.Stopped(f"usage: mps {order} {USES[order]}")
+    if order in USES and "" in words:
+        raise building.Stopped(f"the path that mps {order} was given is empty")
     sources = noted_digest(building.PROGRAM.crates())
     if order == "which":
         output.write(f"{which(words, sources)}\n")
