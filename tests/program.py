@@ -58,6 +58,24 @@ class Program:
         return self.run([order, *paths], **more)
 
 
+def unwritten(words, **how):
+    """What a command tells, and its status, where its standard output is full, where it is closed, and where nobody reads it."""
+    words = [str(word) for word in words]
+    reader, writer = os.pipe()
+    os.close(reader)
+    with open("/dev/full", "wb") as full, open(writer, "wb") as unread:
+        for call, out in ((words, full), (["sh", "-c", 'exec "$@" >&-', "sh", *words], None), (words, unread)):
+            ran = subprocess.run(call, stdin=subprocess.DEVNULL, stdout=out, stderr=subprocess.PIPE, text=True, timeout=60,
+                                 check=False, **how)
+            yield ran.stderr, ran.returncode
+
+
+def unwritten_by(tool):
+    """What comes of that where a tool has something to write."""
+    told = f"{tool}: standard output can't be written: "
+    return [(f"{told}No space left on device\n", 2), (f"{told}Bad file descriptor\n", 2), ("", 141)]
+
+
 def keep(name, order, texts):
     """Keeps the files of a run under out/tests, and gives the command that repeats it."""
     OUT.mkdir(parents=True, exist_ok=True)

@@ -379,11 +379,16 @@ def unopened(file, error):
     return f"refused file {file}\n{error.strerror} (os error {error.errno})"
 
 
-def outcome_of(order, *files):
+def named(script):
+    """The file that a word for a script names."""
+    return "/dev/stdin" if script == "-" else script
+
+
+def outcome_of(order, protocol, *scripts):
     """What an order over files comes to: the protocol is read and checked before a script is opened."""
     texts = []
     try:
-        for file in files:
+        for file in (protocol, *map(named, scripts)):
             with open(file, "rb") as content:
                 texts.append(content.read())
             load(texts[0])

@@ -20,7 +20,7 @@ mps --version                  the program's version
 The proved program runs where one was built of the sources as they are, else the checked one: the same sources, with a
 check at each step where a proof would have shown that nothing goes wrong. The checked one is built where it is missing,
 which takes about a minute. So it is with the library. mps ends with the program's status, or with 2 where no program can
-be run.
+be run, or what mps itself says can't be written.
 """
 import os
 import signal
@@ -31,6 +31,7 @@ sys.dont_write_bytecode = True
 sys.path.insert(0, os.path.dirname(os.path.realpath(__file__)))
 import building  # noqa: E402
 import explain  # noqa: E402
+import output  # noqa: E402
 from sources import built, noted_digest  # noqa: E402
 
 # the words that each order of mps itself may have after it
@@ -45,16 +46,15 @@ def may_follow(order, words):
 
 
 def which(words, sources):
-    """Tells which program runs, and of which sources."""
+    """Which program runs, and of which sources."""
     found = built(sources)
     if found and words:
-        print(found[1])
-    elif found:
-        print(f"{found[0]} program of the sources {sources}: {os.path.relpath(found[1])}")
-    elif words:
+        return found[1]
+    if found:
+        return f"{found[0]} program of the sources {sources}: {os.path.relpath(found[1])}"
+    if words:
         raise building.Stopped("no program of these sources is built yet")
-    else:
-        print(f"no program of the sources {sources} yet: mps builds the checked one when it is called, mps prove the proved one")
+    return f"no program of the sources {sources} yet: mps builds the checked one when it is called, mps prove the proved one"
 
 
 def program_of(sources):
@@ -72,13 +72,17 @@ def refused_file(program, words):
     return file if subprocess.run([program, "check", "--", file], **quiet, check=False).returncode == 3 else None
 
 
-def run_explained(program, words, file, out):
-    """The status of a run of the program. Where it refuses the protocol of that file, out gets its line, and why."""
+def complain(text):
+    """Writes to standard error."""
+    sys.stderr.buffer.write(text)
+    sys.stderr.flush()
+
+
+def run_explained(program, words, file, tell):
+    """The status of a run of the program. Where it refuses the protocol of that file, its line is told, and why."""
     ran = subprocess.run([program, *words], stderr=subprocess.PIPE, check=False)
     told = explain.told_of(file, ran.stderr) if ran.returncode == 3 else b""
-    stream = out if told else sys.stderr
-    stream.buffer.write(ran.stderr + told)
-    stream.flush()
+    (tell if told else complain)(ran.stderr + told)
     return ran.returncode if ran.returncode >= 0 else 128 - ran.returncode
 
 
@@ -86,44 +90,34 @@ def run(program, words):
     """Becomes the program; where a person reads what it says of a refused protocol, they are told why."""
     file = refused_file(program, words) if words and os.isatty(2) else None
     if file is not None:
-        sys.exit(run_explained(program, words, file, sys.stderr))
+        sys.exit(run_explained(program, words, file, complain))
     os.execv(program, [program, *words])
 
 
 def main():
     if sys.argv[1:] in ([], ["--help"], ["-h"], ["help"]):
-        print(__doc__.rstrip("\n"), file=sys.stdout if sys.argv[1:] else sys.stderr)
+        (output.write if sys.argv[1:] else complain)(__doc__.encode())
         sys.exit(0 if sys.argv[1:] else 2)
     order, words = sys.argv[1], sys.argv[2:]
     if order in USES and not may_follow(order, words):
         raise building.Stopped(f"usage: mps {order} {USES[order]}")
+    if order in USES and "" in words:
+        raise building.Stopped(f"the path that mps {order} was given is empty")
     sources = noted_digest(building.PROGRAM.crates())
     if order == "which":
-        which(words, sources)
+        output.write(f"{which(words, sources)}\n")
     elif order == "prove":
-        print(building.prove()[building.PROGRAM])
+        output.write(f"{building.prove()[building.PROGRAM]}\n")
     elif order == "library":
-        print(building.give_library(*words))
+        output.write(f"{building.give_library(*words)}\n")
     elif order == "install":
-        print(building.install(program_of(sources), *words))
+        output.write(f"{building.install(program_of(sources), *words)}\n")
     elif order == "explain":
-        sys.exit(run_explained(program_of(sources), ["check", "--", *words], *words, sys.stdout))
+        sys.exit(run_explained(program_of(sources), ["check", "--", *words], *words, output.write))
     else:
         run(program_of(sources), sys.argv[1:])
 
 
 for number in (signal.SIGTERM, signal.SIGHUP):
     signal.signal(number, lambda number, _: sys.exit(128 + number))
-try:
-    main()
-except building.Stopped as reason:
-    print(f"mps: {reason}", file=sys.stderr)
-    sys.exit(2)
-except KeyboardInterrupt:
-    sys.exit(130)
-except BrokenPipeError:
-    os.dup2(os.open(os.devnull, os.O_WRONLY), 1)
-    sys.exit(141)
-except OSError as error:
-    print(f"mps: {error}", file=sys.stderr)
-    sys.exit(2)
+output.run("mps", main, building.Stopped)

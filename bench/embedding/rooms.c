@@ -16,7 +16,7 @@
 
 #include "cizhmolat.h"
 
-enum { LINES = 40000, ROUNDS = 40, ROOMS = 10000, STACK = 1 << 22, LEVELS = 62 };
+enum { LINES = 40000, ROUNDS = 40, ROOMS = 10000, STACK = 1 << 22, LEVELS = 63 };
 
 static const char *const loop = "roles a b c ; rec X . a -> b : int . X";
 static const char *const relay = "roles a b c ; a -> b : int . b -> c : int . end";
@@ -96,14 +96,17 @@ static void memory(void) {
     printf("%.0f\n%zu\n", (opened - began + now() - closing) / ROOMS, with_entry);
 }
 
+/* Opens a room of a protocol of 64 levels and 256 nodes. In each choice the deep branch is the last: while it is read, those
+ * before it are on the stack too, so no protocol takes more of it. */
 static void *deepest(void *none) {
-    static char text[LEVELS * 20 + 100], ends[2 * LEVELS + 1];
+    static char text[LEVELS * 60 + 100], ends[2 * LEVELS + 1];
     strcpy(text, "roles a b ; ");
     for (int level = 0; level < LEVELS; level += 1) {
-        strcat(text, "a -> b { l : ");
+        strcat(text, level < 3 ? "a -> b { i : end , " : "a -> b { ");
+        strcat(text, "j : end , k : end , l : end , m : ");
         strcat(ends, " }");
     }
-    strcat(strcat(text, "a -> b : int . end"), ends);
+    strcat(strcat(text, "end"), ends);
     mps_room room = {NULL};
     open_room(&room, text);
     mps_close(&room);

@@ -12,6 +12,8 @@ started again, a shard on its folder. Further options, such as --sync and --idle
 `listening P` is printed once all are there, and `shard K is process ID` whenever one is started. Control-C ends all.
 """
 import argparse
+import contextlib
+import os
 import pathlib
 import shutil
 import signal
@@ -73,6 +75,16 @@ class Process:
         if self.ended is not None and now - self.ended >= self.pause:
             self.start()
 
+    def has(self, port):
+        """Whether it listens at the port, soon, as long as it hasn't ended."""
+        for _ in range(100):
+            if self.process.poll() is not None:
+                return False
+            if listener(port) in sockets(self.process.pid):
+                return True
+            time.sleep(LOOK)
+        return False
+
     def end(self):
         self.process.terminate()
         self.process.wait()
@@ -85,30 +97,56 @@ def shard(place, options, more):
     return Process(f"shard {place}", words)
 
 
-def listens(port):
-    """Whether something listens at the port, soon."""
-    for _ in range(100):
+def listener(port):
+    """The socket that listens at the port, as the system names it."""
+    lines = pathlib.Path("/proc/net/tcp").read_text(encoding="ascii").splitlines()
+    rows = (line.split() for line in lines[1:])
+    return next((f"socket:[{row[9]}]" for row in rows if row[1] == f"0100007F:{port:04X}" and row[3] == "0A"), None)
+
+
+def sockets(process):
+    """The files that are open in a process, sockets among them."""
+    with contextlib.suppress(FileNotFoundError):
+        for file in pathlib.Path(f"/proc/{process}/fd").iterdir():
+            with contextlib.suppress(FileNotFoundError):
+                yield os.readlink(file)
+
+
+def need_ports(ports):
+    """Each port has to be free: haproxy would share one with another haproxy."""
+    for port in ports:
         try:
-            socket.create_connection(("127.0.0.1", port)).close()
-            return True
-        except OSError:
-            time.sleep(LOOK)
-    return False
+            socket.create_server(("127.0.0.1", port)).close()
+        except OverflowError:
+            sys.exit(f"there is no port {port}")
+        except OSError as error:
+            sys.exit(f"port {port} can't be listened on: {os.strerror(error.errno)}")
+
+
+def write_configuration(options):
+    """Makes the folder and the balancer's configuration there, and gives the place of that."""
+    file = options.folder / "haproxy.cfg"
+    try:
+        options.folder.mkdir(exist_ok=True)
+        file.write_text(configuration(options.port, options.ports), encoding="utf-8")
+    except OSError as error:
+        sys.exit(f"{error.filename} can't be written: {error.strerror}")
+    return file
 
 
 def run(options, more, processes):
     """Starts the processes, and then looks after them without an end."""
-    options.folder.mkdir(exist_ok=True)
     options.ports = range(options.port + 1, options.port + 1 + options.count)
+    need_ports([options.port, *options.ports])
+    file = write_configuration(options)
     for place in range(options.count):
         processes.append(shard(place, options, more))
     for process in processes:
         if not process.process.stdout.readline().startswith("listening "):
             sys.exit(f"{process.name} can't be started")
-    file = options.folder / "haproxy.cfg"
-    file.write_text(configuration(options.port, options.ports), encoding="utf-8")
-    processes.append(Process("the balancer", ["haproxy", "-q", "-db", "-f", str(file)]))
-    if not listens(options.port):
+    balancer = Process("the balancer", ["haproxy", "-db", "-f", str(file)])
+    processes.append(balancer)
+    if not balancer.has(options.port):
         sys.exit("the balancer can't be started")
     print(f"listening {options.port}", flush=True)
     while True:
