@@ -55,7 +55,7 @@ fn opened<'a, R: Files>(rt: &R, name: &'a str) -> Result<R::File, ToolFault<'a>>
 
 /// A script that is read: a file, or the standard input.
 #[derive(Drop)]
-pub enum Script<F, I> {
+pub(crate) enum Script<F, I> {
     File(F),
     Input(I),
 }
@@ -70,7 +70,7 @@ impl<F: Read, I: Read> Read for Script<F, I> {
 }
 
 /// Opens the script, of which nothing was read yet: the file of that name, or the standard input by `-`.
-pub fn open_script<'a, R: Files + Input>(
+pub(crate) fn open_script<'a, R: Files + Input>(
     rt: &R,
     name: &'a str,
 ) -> Result<OverRead<Script<R::File, R::Reader>>, ToolFault<'a>>
