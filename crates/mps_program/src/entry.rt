@@ -8,6 +8,7 @@ ghost use Rattle.mps_program.specs.declared.faults.ToolFault.TheVariants.{Open a
 use crate::check::check_file;
 use crate::comparison::compare_files;
 use crate::faults::{ToolFault, fault_line, reason_of, status};
+use crate::files::closed_streams;
 use crate::running::run_file;
 use crate::serving::{Service, serve_file};
 use mps_hub::Limits;
@@ -69,6 +70,7 @@ pub fn obey<
     ensures status { IfOk result (λ status. status ≤ 1) }
     ensures opened { IfErr result (λ fault. fault ≢ NoSession) }
 {
+    let _taken = closed_streams(rt);
     match order(rt.alloc(), words)? {
         Order::Serve {
             file,

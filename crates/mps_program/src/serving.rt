@@ -12,7 +12,7 @@ ghost use Rattle.mps_program.specs.Served.{IsSessionLine, IsTellFault};
 ghost use Rattle.mps_program.specs.Private.Served.{IsHubFault, IsNewOf, TellsPort, TookOne, of_serving};
 
 use crate::faults::ToolFault;
-use crate::files::{closed_streams, open_file, tell};
+use crate::files::{open_file, tell};
 use crate::journals::{FileKeeper, Recording, record_sessions};
 use crate::load::{load_protocol, open_session};
 use mps_base::write_number;
@@ -356,7 +356,6 @@ where
     ensures fault { IfErr result (IsServeFault file.now (option_map (λ j. j.folder.now) service.entry.journal)
         service.entry.first service.entry.sessions) }
 {
-    let _taken = closed_streams(rt);
     let alloc = rt.alloc();
     let protocol = load_protocol(alloc, &mut open_file(rt, file)?)?;
     let hub = hub_of(alloc, &protocol, service.first, service.sessions)?;
