@@ -17,8 +17,13 @@ is taken for another line's. An OSError of a handler, such as TimeoutError, coun
 
 The newest number is kept in the file `numbers`, so that a program that is started again goes on from there. A number that
 was used before is answered as before, and nothing is run. So a client that began at 1 again would lose commands without
-noticing. A Role never does: when it first joins it asks the server which number is the newest, by `N undo 0`. No step has
-the number 0, so this changes nothing; and it is refused as `number` unless N is the newest number or the next one.
+noticing. A Role never does: each time it has joined, it asks the server before its next command whether its newest number is
+still the newest, by `N undo 0`. No step has the number 0, so this changes nothing; and it is refused as `number` unless N is
+the newest number or the next one. Where another client acted for the role while it was free WrongNumber is raised, and the
+command isn't sent.
+
+A role is for one client at a time: where a connection breaks between a line and its answer, the line never came, and another
+client gives exactly one numbered command before the role joins again, no answer tells that command from the one that was lost.
 
 A command is in the file too, from before it is sent until `ask`, or the method that gave it, returns its answer, or another
 command takes its place. However many programs end in between, the one that gives it again gets its answer. What a program
@@ -177,7 +182,7 @@ class Taken(Refused):
 
 class WrongNumber(Refused):
     """The session's newest number of this role isn't the one that was kept: it is another session than before, or another
-    client acted for the role."""
+    client acted for the role. A new Role without the file of numbers goes on after what that client did."""
     word = "number"
 
 
@@ -281,6 +286,17 @@ class Connection:
         with contextlib.suppress(OSError):
             self._socket.close()
 
+    def is_over(self) -> bool:
+        """Whether the other end was seen to break off, or something came that nobody asked for."""
+        try:
+            self._socket.settimeout(0)
+            self._socket.recv(1)
+        except BlockingIOError:
+            return False
+        except OSError:
+            pass
+        return True
+
     def talk(self, line: str, until: float) -> str:
         """The answer to a line, which has to be there until then."""
         self._socket.settimeout(left(until))
@@ -366,7 +382,7 @@ class Role:
         self._numbers = Numbers(numbers, f"{session} {role}")
         self.resumed: Answered | None = None
         self._newest = self._numbers.newest  # one more than in the file, while `resumed` has the command that is there
-        self._is_settled = False  # whether the newest number is known
+        self._is_settled = False  # whether the newest number is known, and is the session's as long as the connection lasts
         try:
             self._settle(math.inf)
         except BaseException:
@@ -383,7 +399,7 @@ class Role:
         """Ends the connection, and so frees the role. The next command joins again."""
         if self._connection is not None:
             self._connection.close()
-        self._connection = None
+        self._connection, self._is_settled = None, False
 
     # --- Steps forward ---
 
@@ -459,13 +475,15 @@ class Role:
         return self._newest
 
     def ask(self, command: str) -> str:
-        """The answer to a command line, which is given without a number; refusals aren't raised."""
+        """The answer to a command line, which is given without a number; refusals of it aren't raised."""
         return self._ask(command, math.inf)
 
     def _ask(self, command: str, limit: float) -> str:
         """The answer to a command line, for which nothing waits beyond the limit."""
         if "\n" in command or not command.isascii():
             raise ValueError(f"no line: {command!r}")
+        if self._connection is not None and self._connection.is_over():
+            self.close()
         if command.split(" ")[0] in QUESTIONS:
             return self._exchange(command, limit)
         if not self._is_settled:
@@ -513,7 +531,8 @@ class Role:
     # --- Numbers ---
 
     def _settle(self, limit: float) -> None:
-        """Finds out which number is the newest, and whether the command under way was accepted."""
+        """Finds out which number is the newest, and whether the command under way was accepted. Where none was under way nothing
+        else may have been."""
         numbers = self._numbers
         first = numbers.newest + 1
         for number in range(first, first + 1 if numbers.is_known else FULL + 2):
@@ -524,6 +543,8 @@ class Role:
             self._newest, self.resumed = number - 1, None
         else:
             self._understood(f"{number} undo 0", answer, r"(?:un)?done.*")
+            if numbers.is_known and numbers.command is None:
+                raise WrongNumber("refused number", f"{number} undo 0")
             self._newest, self.resumed = number, Answered(numbers.command, answer)
         if self.resumed is None or self.resumed.command is None:
             numbers.keep(self._newest)
