@@ -222,14 +222,19 @@ class Answered(NamedTuple):
     answer: str
 
 
+def plain(text: str) -> str:
+    """The text itself. A member of an enum has one too, but is formatted as something else."""
+    return str.__str__(text)
+
+
 def spelled(value: Value) -> str:
     """A value as a line spells it."""
     if isinstance(value, bool):
         return "true" if value else "false"
     if isinstance(value, int) and -2 ** 63 <= value < 2 ** 63:
-        return str(value)
+        return int.__repr__(value)
     if isinstance(value, str) and TEXT.fullmatch(value):
-        return f'"{value}"'
+        return f'"{plain(value)}"'
     raise ValueError(f"no value of a session: {value!r} (an int of 64 bits, a bool, or up to 256 bytes from the space to ~ "
                      'without " and \\)')
 
@@ -238,14 +243,14 @@ def name(word: str) -> str:
     """The word, which has to be a name."""
     if not isinstance(word, str) or not NAME.fullmatch(word):
         raise ValueError(f"no name: {word!r} (up to 32 small letters, digits and _, a letter first, no reserved word)")
-    return word
+    return plain(word)
 
 
 def count(number: int) -> int:
     """The number, which has to be one that a line can have."""
     if isinstance(number, bool) or not isinstance(number, int) or not 0 <= number < 2 ** 64:
         raise ValueError(f"no number of a step or an entry: {number!r}")
-    return number
+    return int.__int__(number)
 
 
 def read(command: str, answer: str, form: str) -> re.Match[str]:
@@ -379,7 +384,7 @@ class Role:
             raise ValueError(f"no port: {port!r}")
         self.address, self.timeout, self.patience = (host, port), timeout, patience
         self._connection: Connection | None = None
-        self._numbers = Numbers(numbers, f"{session} {role}")
+        self._numbers = Numbers(numbers, f"{self.session} {self.role}")
         self.resumed: Answered | None = None
         self._newest = self._numbers.newest  # one more than in the file, while `resumed` has the command that is there
         self._is_settled = False  # whether the newest number is known, and is the session's as long as the connection lasts
@@ -482,6 +487,7 @@ class Role:
         """The answer to a command line, for which nothing waits beyond the limit."""
         if "\n" in command or not command.isascii():
             raise ValueError(f"no line: {command!r}")
+        command = plain(command)
         if self._connection is not None and self._connection.is_over():
             self.close()
         if command.split(" ")[0] in QUESTIONS:
