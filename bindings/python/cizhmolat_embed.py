@@ -229,4 +229,4 @@ class Role(cizhmolat.Role):
                 left = until - time.monotonic()
                 if answer != "refused nothingqueued" or left <= 0:
                     return read(command, answer, form)
-                self.session._turn.wait(left)
+                self.session._turn.wait(min(left, threading.TIMEOUT_MAX))

@@ -58,6 +58,7 @@ TEXT = re.compile(r"[ !#-\[\]-~]{0,256}")
 ANSWER = re.compile(r"(?:done|undone|news|joined|refused)\b.*|\{.*\}")  # what any answer looks like
 QUESTIONS = ("news", "show")  # which change nothing, and have no number
 FULL = 100_000  # entries that a journal has at most
+LONGEST = 2_000_000  # seconds that each system's sockets take as a limit: 23 days
 
 
 class Error(Exception):
@@ -271,12 +272,12 @@ def pauses(least: float, most: float) -> Iterator[float]:
         least = min(2 * least, most)
 
 
-def left(until: float) -> float:
-    """The seconds that are left until then. There have to be some."""
+def left(until: float) -> float | None:
+    """The seconds that are left until then, or None, which is no limit, for more than a socket takes. There have to be some."""
     seconds = until - time.monotonic()
     if seconds <= 0:
         raise TimeoutError("the time is over")
-    return seconds
+    return seconds if seconds < LONGEST else None
 
 
 class Connection:
@@ -373,6 +374,8 @@ class Role:
     timeout          seconds until an answer that hasn't come counts as a broken connection
     patience         seconds for which a server that isn't there or doesn't answer, and a role that is taken, are tried again;
                      with 0 there is one try, for `timeout`
+
+    Each time may be math.inf, also that of a receipt: then the waiting has no limit.
 
     `resumed` has the command whose answer no program got, if that command was accepted. A program whose first command is the
     same one gets that answer, and nothing is run a second time; with any other command it goes on."""
