@@ -540,8 +540,8 @@ class Role:
     # --- Numbers ---
 
     def _settle(self, limit: float) -> None:
-        """Finds out which number is the newest, and whether the command under way was accepted. Where none was under way nothing
-        else may have been."""
+        """Finds out which number is the newest, and whether the command under way was accepted. Where none was under way, none may
+        have been."""
         numbers = self._numbers
         first = numbers.newest + 1
         for number in range(first, first + 1 if numbers.is_known else FULL + 2):
