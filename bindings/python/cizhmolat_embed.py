@@ -211,9 +211,11 @@ class Role(cizhmolat.Role):
         return self.session._accepted.get(self.role, 0)
 
     def ask(self, command: str) -> str:
-        """The answer to a command line; refusals aren't raised."""
+        """The answer to a command line, which is given without a number; refusals aren't raised."""
         if "\n" in command or not command.isascii():
             raise ValueError(f"no line: {command!r}")
+        if command[:1].isdigit():
+            command = f"0 {command}"  # two numbers are refused, as at a server, where each command has one
         with self.session._turn:
             answer = self.session.ask(self.role, command)
             if answer.startswith(("done", "undone")):
@@ -229,4 +231,4 @@ class Role(cizhmolat.Role):
                 left = until - time.monotonic()
                 if answer != "refused nothingqueued" or left <= 0:
                     return read(command, answer, form)
-                self.session._turn.wait(left)
+                self.session._turn.wait(min(left, threading.TIMEOUT_MAX))

@@ -17,8 +17,13 @@ is taken for another line's. An OSError of a handler, such as TimeoutError, coun
 
 The newest number is kept in the file `numbers`, so that a program that is started again goes on from there. A number that
 was used before is answered as before, and nothing is run. So a client that began at 1 again would lose commands without
-noticing. A Role never does: when it first joins it asks the server which number is the newest, by `N undo 0`. No step has
-the number 0, so this changes nothing; and it is refused as `number` unless N is the newest number or the next one.
+noticing. A Role never does: each time it has joined, it asks the server before its next command whether its newest number is
+still the newest, by `N undo 0`. No step has the number 0, so this changes nothing; and it is refused as `number` unless N is
+the newest number or the next one. Where another client acted for the role while it was free WrongNumber is raised, and the
+command isn't sent.
+
+A role is for one client at a time: where a connection breaks between a line and its answer, the line never came, and another
+client gives exactly one numbered command before the role joins again, no answer tells that command from the one that was lost.
 
 A command is in the file too, from before it is sent until `ask`, or the method that gave it, returns its answer, or another
 command takes its place. However many programs end in between, the one that gives it again gets its answer. What a program
@@ -53,6 +58,7 @@ TEXT = re.compile(r"[ !#-\[\]-~]{0,256}")
 ANSWER = re.compile(r"(?:done|undone|news|joined|refused)\b.*|\{.*\}")  # what any answer looks like
 QUESTIONS = ("news", "show")  # which change nothing, and have no number
 FULL = 100_000  # entries that a journal has at most
+LONGEST = 2_000_000  # seconds that each system's sockets take as a limit: 23 days
 
 
 class Error(Exception):
@@ -177,7 +183,7 @@ class Taken(Refused):
 
 class WrongNumber(Refused):
     """The session's newest number of this role isn't the one that was kept: it is another session than before, or another
-    client acted for the role."""
+    client acted for the role. A new Role without the file of numbers goes on after what that client did."""
     word = "number"
 
 
@@ -217,14 +223,19 @@ class Answered(NamedTuple):
     answer: str
 
 
+def plain(text: str) -> str:
+    """The text itself. A member of an enum has one too, but is formatted as something else."""
+    return str.__str__(text)
+
+
 def spelled(value: Value) -> str:
     """A value as a line spells it."""
     if isinstance(value, bool):
         return "true" if value else "false"
     if isinstance(value, int) and -2 ** 63 <= value < 2 ** 63:
-        return str(value)
+        return int.__repr__(value)
     if isinstance(value, str) and TEXT.fullmatch(value):
-        return f'"{value}"'
+        return f'"{plain(value)}"'
     raise ValueError(f"no value of a session: {value!r} (an int of 64 bits, a bool, or up to 256 bytes from the space to ~ "
                      'without " and \\)')
 
@@ -233,14 +244,14 @@ def name(word: str) -> str:
     """The word, which has to be a name."""
     if not isinstance(word, str) or not NAME.fullmatch(word):
         raise ValueError(f"no name: {word!r} (up to 32 small letters, digits and _, a letter first, no reserved word)")
-    return word
+    return plain(word)
 
 
 def count(number: int) -> int:
     """The number, which has to be one that a line can have."""
     if isinstance(number, bool) or not isinstance(number, int) or not 0 <= number < 2 ** 64:
         raise ValueError(f"no number of a step or an entry: {number!r}")
-    return number
+    return int.__int__(number)
 
 
 def read(command: str, answer: str, form: str) -> re.Match[str]:
@@ -261,12 +272,12 @@ def pauses(least: float, most: float) -> Iterator[float]:
         least = min(2 * least, most)
 
 
-def left(until: float) -> float:
-    """The seconds that are left until then. There have to be some."""
+def left(until: float) -> float | None:
+    """The seconds that are left until then, or None, which is no limit, for more than a socket takes. There have to be some."""
     seconds = until - time.monotonic()
     if seconds <= 0:
         raise TimeoutError("the time is over")
-    return seconds
+    return seconds if seconds < LONGEST else None
 
 
 class Connection:
@@ -280,6 +291,17 @@ class Connection:
         """Ends the connection."""
         with contextlib.suppress(OSError):
             self._socket.close()
+
+    def is_over(self) -> bool:
+        """Whether the other end was seen to break off, or something came that nobody asked for."""
+        try:
+            self._socket.settimeout(0)
+            self._socket.recv(1)
+        except BlockingIOError:
+            return False
+        except OSError:
+            pass
+        return True
 
     def talk(self, line: str, until: float) -> str:
         """The answer to a line, which has to be there until then."""
@@ -353,6 +375,8 @@ class Role:
     patience         seconds for which a server that isn't there or doesn't answer, and a role that is taken, are tried again;
                      with 0 there is one try, for `timeout`
 
+    Each time may be math.inf, also that of a receipt: then the waiting has no limit.
+
     `resumed` has the command whose answer no program got, if that command was accepted. A program whose first command is the
     same one gets that answer, and nothing is run a second time; with any other command it goes on."""
 
@@ -363,10 +387,10 @@ class Role:
             raise ValueError(f"no port: {port!r}")
         self.address, self.timeout, self.patience = (host, port), timeout, patience
         self._connection: Connection | None = None
-        self._numbers = Numbers(numbers, f"{session} {role}")
+        self._numbers = Numbers(numbers, f"{self.session} {self.role}")
         self.resumed: Answered | None = None
         self._newest = self._numbers.newest  # one more than in the file, while `resumed` has the command that is there
-        self._is_settled = False  # whether the newest number is known
+        self._is_settled = False  # whether the newest number is known, and is the session's as long as the connection lasts
         try:
             self._settle(math.inf)
         except BaseException:
@@ -383,7 +407,7 @@ class Role:
         """Ends the connection, and so frees the role. The next command joins again."""
         if self._connection is not None:
             self._connection.close()
-        self._connection = None
+        self._connection, self._is_settled = None, False
 
     # --- Steps forward ---
 
@@ -459,13 +483,16 @@ class Role:
         return self._newest
 
     def ask(self, command: str) -> str:
-        """The answer to a command line, which is given without a number; refusals aren't raised."""
+        """The answer to a command line, which is given without a number; refusals of it aren't raised."""
         return self._ask(command, math.inf)
 
     def _ask(self, command: str, limit: float) -> str:
         """The answer to a command line, for which nothing waits beyond the limit."""
         if "\n" in command or not command.isascii():
             raise ValueError(f"no line: {command!r}")
+        command = plain(command)
+        if self._connection is not None and self._connection.is_over():
+            self.close()
         if command.split(" ")[0] in QUESTIONS:
             return self._exchange(command, limit)
         if not self._is_settled:
@@ -513,7 +540,8 @@ class Role:
     # --- Numbers ---
 
     def _settle(self, limit: float) -> None:
-        """Finds out which number is the newest, and whether the command under way was accepted."""
+        """Finds out which number is the newest, and whether the command under way was accepted. Where none was under way, none may
+        have been."""
         numbers = self._numbers
         first = numbers.newest + 1
         for number in range(first, first + 1 if numbers.is_known else FULL + 2):
@@ -524,6 +552,8 @@ class Role:
             self._newest, self.resumed = number - 1, None
         else:
             self._understood(f"{number} undo 0", answer, r"(?:un)?done.*")
+            if numbers.is_known and numbers.command is None:
+                raise WrongNumber("refused number", f"{number} undo 0")
             self._newest, self.resumed = number, Answered(numbers.command, answer)
         if self.resumed is None or self.resumed.command is None:
             numbers.keep(self._newest)
