@@ -10,6 +10,7 @@ to the shard whose session its first line names; its configuration is written to
 started again, a shard on its folder. Further options, such as --sync and --idle 300, are those of each shard.
 
 `listening P` is printed once all are there, and `shard K is process ID` whenever one is started. Control-C ends all.
+Started again with a larger N, on the same FOLDER, the fleet has the sessions that it had, and those of more shards.
 """
 import argparse
 import contextlib
