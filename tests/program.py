@@ -58,16 +58,25 @@ class Program:
         return self.run([order, *paths], **more)
 
 
-def unwritten(words, **how):
-    """What a command tells, and its status, where its standard output is full, where it is closed, and where nobody reads it."""
-    words = [str(word) for word in words]
+def lost(words, stream, **how):
+    """Runs of a command whose standard output, or error, is full, closed, and a pipe that nobody reads."""
+    words, number = [str(word) for word in words], {"stdout": 1, "stderr": 2}[stream]
     reader, writer = os.pipe()
     os.close(reader)
     with open("/dev/full", "wb") as full, open(writer, "wb") as unread:
-        for call, out in ((words, full), (["sh", "-c", 'exec "$@" >&-', "sh", *words], None), (words, unread)):
-            ran = subprocess.run(call, stdin=subprocess.DEVNULL, stdout=out, stderr=subprocess.PIPE, text=True, timeout=60,
-                                 check=False, **how)
-            yield ran.stderr, ran.returncode
+        for call, end in ((words, full), (["sh", "-c", f'exec "$@" {number}>&-', "sh", *words], None), (words, unread)):
+            streams = {"stdin": subprocess.DEVNULL, "stdout": subprocess.PIPE, "stderr": subprocess.PIPE, stream: end}
+            yield subprocess.run(call, **streams, text=True, timeout=60, check=False, **how)
+
+
+def unwritten(words, **how):
+    """What a command tells, and its status, each time that its standard output is lost."""
+    return [(ran.stderr, ran.returncode) for ran in lost(words, "stdout", **how)]
+
+
+def untold(words, **how):
+    """What a command writes, and its status, each time that its standard error is lost."""
+    return [(ran.stdout, ran.returncode) for ran in lost(words, "stderr", **how)]
 
 
 def unwritten_by(tool):

@@ -7,6 +7,7 @@ types are read by tools/protocols.py, which is written in the same way.
 
 reference.py check FILE | run FILE SCRIPT | same FILE SCRIPT SCRIPT
 """
+import contextlib
 import functools
 import itertools
 import json
@@ -379,24 +380,23 @@ def unopened(file, error):
     return f"refused file {file}\n{error.strerror} (os error {error.errno})"
 
 
-def named(script):
-    """The file that a word for a script names."""
-    return "/dev/stdin" if script == "-" else script
-
-
 def outcome_of(order, protocol, *scripts):
-    """What an order over files comes to: the protocol is read and checked before a script is opened."""
-    texts = []
+    """What an order over files comes to: the protocol is read and checked before a script is opened, and all scripts are
+    opened before one is read. `-` is what the standard input has left."""
     try:
-        for file in (protocol, *map(named, scripts)):
-            with open(file, "rb") as content:
-                texts.append(content.read())
-            load(texts[0])
+        with contextlib.ExitStack() as files:
+            text = files.enter_context(open(protocol, "rb")).read()
+            load(text)
+            given = sys.stdin and sys.stdin.buffer
+            opened = [given if script == "-" else files.enter_context(open(script, "rb")) for script in scripts]
+            if None in opened:  # a standard input that was closed before this began
+                raise OSError
+            texts = [file.read() for file in opened]
     except Fault as fault:
         return Outcome(b"", fault.line, fault.status)
-    except OSError as error:
-        return Outcome(b"", unopened(file, error), 2)
-    return {"check": check, "run": run, "same": same}[order](*texts)
+    except OSError as error:  # which has the name of a file that can't be opened
+        return Outcome(b"", "refused read", 4) if error.filename is None else Outcome(b"", unopened(error.filename, error), 2)
+    return {"check": check, "run": run, "same": same}[order](text, *texts)
 
 
 def main():

@@ -6,13 +6,13 @@ import os
 import shutil
 import signal
 import subprocess
-import sys
 import tempfile
 import time
 from typing import NamedTuple
 
 import checked_build
 import library
+from output import tell
 from sources import HOME, OUT, built, digest, listed, needed, place
 
 
@@ -103,7 +103,7 @@ class Proof:
             return False
         if self.process.returncode != 0:
             self.log.seek(0)
-            sys.stderr.write(self.log.read().decode(errors="replace"))
+            tell(self.log.read())
             raise Stopped(f"{self.name} isn't proved")
         return True
 
@@ -117,7 +117,7 @@ def prove_all(crates):
     memory = os.sysconf("SC_PAGE_SIZE") * os.sysconf("SC_PHYS_PAGES")
     room = max(1, min(os.cpu_count() or 1, (memory + (2 << 30)) // (4 << 30)))
     waiting, running, proved = list(crates), [], set()
-    print(f"{len(crates)} crates are proved, which takes some minutes", file=sys.stderr)
+    tell(f"{len(crates)} crates are proved, which takes some minutes\n")
     try:
         while waiting or running:
             for name in list(waiting):
@@ -128,7 +128,7 @@ def prove_all(crates):
             for proof in [proof for proof in running if proof.is_over()]:
                 running.remove(proof)
                 proved.add(proof.name)
-                print(f"[{len(proved)}/{len(crates)}] {proof.name} is proved", file=sys.stderr, flush=True)
+                tell(f"[{len(proved)}/{len(crates)}] {proof.name} is proved\n")
     finally:
         for proof in running:
             if proof.process.poll() is None:
@@ -171,12 +171,12 @@ def check(goal, sources):
         if os.path.exists(there):
             return there
         need_kit(goal)
-        print(f"building {goal.called}, which takes about a minute ..", file=sys.stderr, flush=True)
+        tell(f"building {goal.called}, which takes about a minute ..\n")
         try:
             with told_why(goal):
                 goal.make_checked(there)
         except checked_build.NotAsExpected as reason:
-            print(f"mps: no checked build ({reason}), so what is proved is built", file=sys.stderr, flush=True)
+            tell(f"mps: no checked build ({reason}), so what is proved is built\n")
         else:
             try:
                 need_same(goal, sources)
@@ -184,8 +184,7 @@ def check(goal, sources):
                 shutil.rmtree(os.path.dirname(there))
                 raise
             only(there, "checked")
-            print("checked build: each step is tested as it runs; ./mps prove builds what is proved, some 30 minutes",
-                  file=sys.stderr, flush=True)
+            tell("checked build: each step is tested as it runs; ./mps prove builds what is proved, some 30 minutes\n")
             return there
     return prove()[goal]
 

@@ -72,17 +72,11 @@ def refused_file(program, words):
     return file if subprocess.run([program, "check", "--", file], **quiet, check=False).returncode == 3 else None
 
 
-def complain(text):
-    """Writes to standard error."""
-    sys.stderr.buffer.write(text)
-    sys.stderr.flush()
-
-
-def run_explained(program, words, file, tell):
-    """The status of a run of the program. Where it refuses the protocol of that file, its line is told, and why."""
+def run_explained(program, words, file, write):
+    """The status of a run of the program. Where it refuses the protocol of that file, its line is written, and why."""
     ran = subprocess.run([program, *words], stderr=subprocess.PIPE, check=False)
     told = explain.told_of(file, ran.stderr) if ran.returncode == 3 else b""
-    (tell if told else complain)(ran.stderr + told)
+    (write if told else output.tell)(ran.stderr + told)
     return ran.returncode if ran.returncode >= 0 else 128 - ran.returncode
 
 
@@ -90,13 +84,13 @@ def run(program, words):
     """Becomes the program; where a person reads what it says of a refused protocol, they are told why."""
     file = refused_file(program, words) if words and os.isatty(2) else None
     if file is not None:
-        sys.exit(run_explained(program, words, file, complain))
+        sys.exit(run_explained(program, words, file, output.tell))
     os.execv(program, [program, *words])
 
 
 def main():
     if sys.argv[1:] in ([], ["--help"], ["-h"], ["help"]):
-        (output.write if sys.argv[1:] else complain)(__doc__.encode())
+        (output.write if sys.argv[1:] else output.tell)(__doc__.encode())
         sys.exit(0 if sys.argv[1:] else 2)
     order, words = sys.argv[1], sys.argv[2:]
     if order in USES and not may_follow(order, words):

@@ -10,6 +10,7 @@ to the shard whose session its first line names; its configuration is written to
 started again, a shard on its folder. Further options, such as --sync and --idle 300, are those of each shard.
 
 `listening P` is printed once all are there, and `shard K is process ID` whenever one is started. Control-C ends all.
+Started again with a larger N, on the same FOLDER, the fleet has the sessions that it had, and those of more shards.
 """
 import argparse
 import contextlib
@@ -26,6 +27,7 @@ MPS = str(pathlib.Path(__file__).resolve().parent.parent.parent / "mps")
 SESSIONS = 16  # of a shard
 LOOK = 0.05  # seconds between two looks at the processes
 LEAST, MOST = 0.1, 10  # seconds until a process is started again
+ENDS = (signal.SIGINT, signal.SIGTERM, signal.SIGHUP)
 
 BALANCER = """# Hands each connection to the shard that has the session of its first line, `join SESSION ROLE`.
 defaults
@@ -52,17 +54,43 @@ def configuration(port, ports, sessions=SESSIONS):
     return BALANCER.format(port=port, sessions=sessions) + "".join(shards)
 
 
+def heed(handler):
+    """What is done from now on at a signal that ends the fleet."""
+    for kind in ENDS:
+        signal.signal(kind, handler)
+
+
+def stop(*_):
+    """Ends the fleet, once: a second signal would leave processes behind that the first was about to end."""
+    heed(signal.SIG_IGN)
+    sys.exit(0)
+
+
+@contextlib.contextmanager
+def held():
+    """Signals that come meanwhile end the fleet afterwards."""
+    came = []
+    heed(lambda *_: came.append(True))
+    try:
+        yield
+    finally:
+        heed(stop)
+    if came:
+        stop()
+
+
 class Process:
     """A process that is started again when it ends."""
 
     def __init__(self, name, words):
         self.name, self.words = name, words
         self.pause = LEAST
-        self.start()
+        self.process = None
 
     def start(self):
         self.began, self.ended = time.monotonic(), None
-        self.process = subprocess.Popen(self.words, stdin=subprocess.DEVNULL, stdout=subprocess.PIPE, text=True)
+        with held():  # else a process that has no name here yet would be left behind
+            self.process = subprocess.Popen(self.words, stdin=subprocess.DEVNULL, stdout=subprocess.PIPE, text=True)
         print(f"{self.name} is process {self.process.pid}", flush=True)
 
     def look(self):
@@ -86,12 +114,13 @@ class Process:
         return False
 
     def end(self):
-        self.process.terminate()
-        self.process.wait()
+        if self.process:
+            self.process.terminate()
+            self.process.wait()
 
 
 def shard(place, options, more):
-    """A shard, which may not listen yet."""
+    """A shard, which isn't started yet."""
     words = [MPS, "serve", options.file, "--port", str(options.ports[place]), "--sessions", str(SESSIONS),
              "--first", str(1 + SESSIONS * place), "--journal", str(options.folder / str(place)), *more]
     return Process(f"shard {place}", words)
@@ -139,13 +168,15 @@ def run(options, more, processes):
     options.ports = range(options.port + 1, options.port + 1 + options.count)
     need_ports([options.port, *options.ports])
     file = write_configuration(options)
-    for place in range(options.count):
-        processes.append(shard(place, options, more))
+    processes += [shard(place, options, more) for place in range(options.count)]
+    for process in processes:
+        process.start()
     for process in processes:
         if not process.process.stdout.readline().startswith("listening "):
             sys.exit(f"{process.name} can't be started")
     balancer = Process("the balancer", ["haproxy", "-db", "-f", str(file)])
     processes.append(balancer)
+    balancer.start()
     if not balancer.has(options.port):
         sys.exit("the balancer can't be started")
     print(f"listening {options.port}", flush=True)
@@ -156,6 +187,7 @@ def run(options, more, processes):
 
 
 def main():
+    heed(stop)
     reader = argparse.ArgumentParser(usage=__doc__.split("usage: ")[1].split("\n")[0])
     reader.add_argument("count", type=int, metavar="N")
     reader.add_argument("file", metavar="FILE")
@@ -164,13 +196,12 @@ def main():
     options, more = reader.parse_known_args()
     if shutil.which("haproxy") is None:
         sys.exit("fleet.py needs haproxy, which Debian has as a package")
-    for kind in (signal.SIGTERM, signal.SIGHUP):
-        signal.signal(kind, lambda *_: sys.exit(0))
     processes = []
     try:
-        run(options, more, processes)
-    except KeyboardInterrupt:
-        pass
+        try:
+            run(options, more, processes)
+        finally:
+            heed(signal.SIG_IGN)  # or ends with stop, after which none is heeded either
     finally:
         for process in processes:
             process.end()
