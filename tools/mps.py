@@ -20,7 +20,7 @@ mps --version                  the program's version
 The proved program runs where one was built of the sources as they are, else the checked one: the same sources, with a
 check at each step where a proof would have shown that nothing goes wrong. The checked one is built where it is missing,
 which takes about a minute. So it is with the library. mps ends with the program's status, or with 2 where no program can
-be run, or what mps itself says can't be written.
+be run, or what mps itself writes to standard output can't be written; with 141 where nobody reads that.
 """
 import os
 import signal

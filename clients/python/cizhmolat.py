@@ -17,8 +17,8 @@ is taken for another line's. An OSError of a handler, such as TimeoutError, coun
 
 The newest number is kept in the file `numbers`, so that a program that is started again goes on from there. A number that
 was used before is answered as before, and nothing is run. So a client that began at 1 again would lose commands without
-noticing. A Role never does: each time it has joined, it asks the server before its next command whether its newest number is
-still the newest, by `N undo 0`. No step has the number 0, so this changes nothing; and it is refused as `number` unless N is
+noticing. A Role never does: where it joins before a command, and not to send one again, it asks the server first whether its newest
+number is still the newest, by `N undo 0`. No step has the number 0, so this changes nothing; and it is refused as `number` unless N is
 the newest number or the next one. Where another client acted for the role while it was free WrongNumber is raised, and the
 command isn't sent.
 
@@ -285,7 +285,8 @@ class Connection:
 
     def __init__(self, address: tuple[str, int], until: float) -> None:
         self._socket = socket.create_connection(address, timeout=left(until))
-        self._socket.setsockopt(socket.IPPROTO_TCP, socket.TCP_NODELAY, 1)
+        with contextlib.suppress(OSError):  # answers then come later
+            self._socket.setsockopt(socket.IPPROTO_TCP, socket.TCP_NODELAY, 1)
 
     def close(self) -> None:
         """Ends the connection."""
@@ -472,8 +473,13 @@ class Role:
 
     def standing(self) -> Standing:
         """How the role stands in the session."""
-        shown = next(it for it in self.show()["roles"] if it["role"] == self.role)
-        return Standing(shown["expects"], shown["past"], dict(shown["store"]))
+        shown = self.show()
+        try:
+            own = next(it for it in shown["roles"] if it["role"] == self.role)
+            return Standing(own["expects"], own["past"], dict(own["store"]))
+        except (LookupError, StopIteration, TypeError, ValueError):
+            self.close()
+            raise NotUnderstood(f"{shown}, to show") from None
 
     # --- Lines ---
 
@@ -591,16 +597,11 @@ class Role:
         raise AssertionError
 
     def _join(self, until: float) -> Connection:
-        """A connection that acts for the role, from now on this Role's."""
-        connection = Connection(self.address, until)
+        """A connection that acts for the role, from now on this Role's; whoever calls closes it where it can't join."""
+        self._connection = Connection(self.address, until)
         line = f"join {self.session} {self.role}"
-        try:
-            read(line, connection.talk(line, until), f"joined {self.session} {self.role}")
-        except BaseException:
-            connection.close()
-            raise
-        self._connection = connection
-        return connection
+        read(line, self._connection.talk(line, until), f"joined {self.session} {self.role}")
+        return self._connection
 
     def _talk(self, line: str, until: float) -> str:
         """The answer to a line on this Role's connection, or on a new one."""

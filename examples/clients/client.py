@@ -8,7 +8,7 @@ newest command, so that a client that is started again goes on from there: where
 it comes when that command is given again. Without FILE the server is asked for the number.
 
 It ends with 0 at the end of the input, and with 1, after saying why on standard error, where it isn't used like this, can't
-join, loses the server, can't keep FILE, or can't print an answer, which it says too."""
+join, loses the server or the role to another client, can't keep FILE, or can't print an answer, which it says too."""
 import os
 import pathlib
 import sys
@@ -34,6 +34,8 @@ def show(text):
 def main():
     if len(sys.argv) not in (4, 5):
         sys.exit(__doc__)
+    if sys.stdout is None:
+        sys.exit("there is no standard output for the answers")
     port, session, role, *file = sys.argv[1:]
     try:
         with Role(int(session), role, int(port), numbers=file[0] if file else None) as it:

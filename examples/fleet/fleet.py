@@ -60,9 +60,16 @@ def heed(handler):
         signal.signal(kind, handler)
 
 
+def deafen():
+    """No signal ends the fleet from now on. They are blocked, and one that has come by then does nothing; of SIG_IGN in its
+    place python would complain."""
+    signal.pthread_sigmask(signal.SIG_BLOCK, ENDS)
+    heed(lambda *_: None)
+
+
 def stop(*_):
     """Ends the fleet, once: a second signal would leave processes behind that the first was about to end."""
-    heed(signal.SIG_IGN)
+    deafen()
     sys.exit(0)
 
 
@@ -135,9 +142,9 @@ def listener(port):
 
 def sockets(process):
     """The files that are open in a process, sockets among them."""
-    with contextlib.suppress(FileNotFoundError):
+    with contextlib.suppress(OSError):  # it ended, or a file was closed meanwhile
         for file in pathlib.Path(f"/proc/{process}/fd").iterdir():
-            with contextlib.suppress(FileNotFoundError):
+            with contextlib.suppress(OSError):
                 yield os.readlink(file)
 
 
@@ -159,7 +166,7 @@ def write_configuration(options):
         options.folder.mkdir(exist_ok=True)
         file.write_text(configuration(options.port, options.ports), encoding="utf-8")
     except OSError as error:
-        sys.exit(f"{error.filename} can't be written: {error.strerror}")
+        sys.exit(f"{error.filename or file} can't be written: {error.strerror}")
     return file
 
 
@@ -201,7 +208,7 @@ def main():
         try:
             run(options, more, processes)
         finally:
-            heed(signal.SIG_IGN)  # or ends with stop, after which none is heeded either
+            deafen()  # or ends with stop, which does it too
     finally:
         for process in processes:
             process.end()

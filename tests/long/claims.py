@@ -69,7 +69,7 @@ def pieces(bench):
     bench.runs += 1
     bench.mps.order("check", ring(3))  # whose file the runs below read
     for size in (1, 2, 7, 10, 11, 12, 13, 511, 512, 513, 600):
-        with subprocess.Popen([bench.mps.path, "run", f"{bench.mps.room.name}/0", "/dev/stdin"], stdin=subprocess.PIPE,
+        with subprocess.Popen([bench.mps.path, "run", f"{bench.mps.room.name}/0", "-"], stdin=subprocess.PIPE,
                               stdout=subprocess.PIPE, bufsize=0) as ran:
             for at in range(0, len(text), size):
                 ran.stdin.write(text[at:at + size])
@@ -88,7 +88,7 @@ def at_once(bench):
     wanted = reference.run(ring(4), script(*lines), FastRoom).out.splitlines(keepends=True)
     bench.runs += 1
     bench.mps.order("check", ring(4))
-    with subprocess.Popen([bench.mps.path, "run", f"{bench.mps.room.name}/0", "/dev/stdin"], stdin=subprocess.PIPE,
+    with subprocess.Popen([bench.mps.path, "run", f"{bench.mps.room.name}/0", "-"], stdin=subprocess.PIPE,
                           stdout=subprocess.PIPE, bufsize=0) as ran:
         for line, answer in zip(lines, wanted):
             ran.stdin.write(script(line))
