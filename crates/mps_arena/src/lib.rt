@@ -18,4 +18,5 @@ mod node;
 
 pub use arena::Arena;
 pub use laws::steps_are_sound;
+pub use mps_base::Step;
 pub use node::{Before, Key, Link};

@@ -1,1 +1,2 @@
 mod Exports
+mod Filling

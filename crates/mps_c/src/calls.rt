@@ -1,13 +1,15 @@
 //! What the exports call: safe code over the room.
-ghost use Rattle.std.specs.Prelude.{◌≡◌, ◌≢◌, ℕ, ◌≤◌, Some, None, All, [], length, slice_get};
-ghost use Rattle.mps_embed.specs.Embedded.{IsAnswered, IsToNobody};
-ghost use Rattle.mps_line.specs.JournalLines.{SpellsJournalLine, CanBeWritten};
+ghost use Rattle.std.specs.Prelude.{◌≡◌, ◌≢◌, ℕ, ◌≤◌, Some, None, All, [], length, slice_get, IfOk, IfErr};
+ghost use Rattle.mps_embed.specs.Embedded.{IsAnswered, IsNewRoomOf, IsToNobody};
+ghost use Rattle.mps_line.specs.JournalLines.{SpellsJournalLine};
 ghost use Rattle.mps_line.specs.Replies.{SpellsReply};
+ghost use Rattle.mps_open.specs.Faults.{GivesNoSession};
 ghost use Rattle.mps_room.specs.declared.entry.Entry.{Entry as Kept};
 ghost use Rattle.mps_c.specs.Results.{IsFilledOrLeft, length_of};
 
 use mps_embed::Embedded;
-use std::alloc::AllocError;
+use mps_open::Fault;
+use std::alloc::{AllocError, Global};
 
 /// What tells a caller in C that there was no memory for a text.
 pub const NO_MEMORY: usize = usize::MAX;
@@ -19,6 +21,18 @@ fn length_or_none(written: Result<usize, AllocError>) -> usize
     match written {
         Ok(length) => length,
         Err(_) => NO_MEMORY,
+    }
+}
+
+/// Opens a room of a new session of the protocol that the text spells.
+pub fn open(alloc: Global, text: &[u8]) -> Result<Box<Embedded>, Fault>
+    ensures opened { IfOk result (λ made. IsNewRoomOf text.now made.value) }
+    ensures fault { IfErr result (GivesNoSession text.now) }
+{
+    let room = Embedded::open(alloc, text)?;
+    match Box::new(alloc, room) {
+        Ok(made) => Ok(made),
+        Err(_) => Err(Fault::Memory),
     }
 }
 
@@ -49,14 +63,14 @@ pub fn entries(room: &mut Embedded) -> u64
     room.room().entries()
 }
 
-/// Writes of the k-th entry, from 0, what fits.
+/// Writes of the k-th entry, from 0, what fits. Past the end the length is 0, and nowhere else.
 pub fn entry(room: &mut Embedded, k: u64, out: &mut [u8]) -> usize
     ensures same { room.new ≡ room.old }
     ensures line { (entry : Kept) → slice_get room.old.room.journal k ≡ Some entry
-        → CanBeWritten room.old.room.names entry.role entry.command
         → IsFilledOrLeft (λ text. SpellsJournalLine room.old.room.names text entry.role None entry.command)
         out.old out.new result }
     ensures past { length room.old.room.journal ≤ k → IsFilledOrLeft (λ text. text ≡ []) out.old out.new result }
+    ensures empty { result ≡ 0 → length room.old.room.journal ≤ k }
 {
     length_or_none(room.entry_into(k, out))
 }

@@ -1,10 +1,10 @@
 //! Rooms for callers in C, behind a struct of one pointer that owns one. The header is bindings/c/cizhmolat.h.
 #![tactic(auto)]
 
-ghost use Rattle.std.specs.Prelude.{◌≡◌, ◌≢◌, ℕ, ◌≤◌, Some, None, All, [], length, slice_get};
+ghost use Rattle.std.specs.Prelude.{◌≡◌, ◌≢◌, ℕ, ◌≤◌, true, false, Some, None, All, [], length, slice_get};
 ghost use types.Logic.{sem};
 ghost use Rattle.mps_embed.specs.Embedded.{IsAnswered, IsToNobody};
-ghost use Rattle.mps_line.specs.JournalLines.{SpellsJournalLine, CanBeWritten};
+ghost use Rattle.mps_line.specs.JournalLines.{SpellsJournalLine};
 ghost use Rattle.mps_line.specs.Replies.{SpellsReply};
 ghost use Rattle.mps_room.specs.declared.entry.Entry.{Entry as Kept};
 ghost use Rattle.mps_c.specs.Handle.{handle_owns, RoomValue, the_code};
@@ -42,7 +42,7 @@ impl Handle {
 }
 
 /// Opens a room of a new session of the protocol that the text spells, and puts its pointer into `room`. Where there
-/// is none, the number of the fault and its place are told.
+/// is none, the number of the fault and its place are told, and `room` is as it was.
 #[unsafe(no_mangle)]
 pub extern "C" fn mps_open(
     alloc: Global,
@@ -52,19 +52,14 @@ pub extern "C" fn mps_open(
     place: &mut u64,
 ) -> bool
     ensures opened { Opens text.now result fault.new place.new }
+    ensures kept { result ≡ false → room.new ≡ room.old }
+    ensures untold { result ≡ true → (fault.new ≡ fault.old) × (place.new ≡ place.old) }
 {
-    match Embedded::open(alloc, text) {
-        Ok(embedded) => match Box::new(alloc, embedded) {
-            Ok(made) => {
-                *room = Box::into_raw(made) as *mut u8;
-                true
-            }
-            Err(_) => {
-                *fault = 1;
-                *place = 0;
-                false
-            }
-        },
+    match calls::open(alloc, text) {
+        Ok(made) => {
+            *room = Box::into_raw(made) as *mut u8;
+            true
+        }
         Err(why) => {
             *fault = why.number();
             *place = why.place();
@@ -105,15 +100,15 @@ pub extern "C" fn mps_entries(handle: &mut Handle) -> u64
 }
 
 /// Writes of the k-th entry, from 0, as a script's line what fits, and gives the length of the whole, or SIZE_MAX.
-/// Past the end that is 0.
+/// Past the end that is 0, and nowhere else.
 #[unsafe(no_mangle)]
 pub extern "C" fn mps_entry(handle: &mut Handle, k: u64, out: &mut [u8]) -> usize
     ensures same { handle.new.room ≡ handle.old.room }
     ensures line { (entry : Kept) → slice_get handle.old.room.room.journal k ≡ Some entry
-        → CanBeWritten handle.old.room.room.names entry.role entry.command
         → IsFilledOrLeft (λ text. SpellsJournalLine handle.old.room.room.names text entry.role None entry.command)
         out.old out.new result }
     ensures past { length handle.old.room.room.journal ≤ k → IsFilledOrLeft (λ text. text ≡ []) out.old out.new result }
+    ensures empty { result ≡ 0 → length handle.old.room.room.journal ≤ k }
 {
     calls::entry(handle.room(), k, out)
 }

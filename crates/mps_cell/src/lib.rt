@@ -11,6 +11,7 @@
 #![tactic(auto)]
 
 pub mod cell;
+pub mod held;
 pub mod laws;
 mod meeting;
 pub mod origin;
@@ -18,8 +19,7 @@ pub mod pass;
 pub mod rule;
 mod turns;
 pub mod view;
-pub mod waiting_pass;
 
 pub use cell::{Cell, Deal, PassFault};
+pub use held::Held;
 pub use pass::{Busy, Leave, Pass, Pause, Straight, meet};
-pub use waiting_pass::WaitingPass;

@@ -185,7 +185,7 @@ impl<'a> Pass<'a> {
     }
 
     /// How many entries the journal has by now. It never waits, and does not allocate.
-    pub fn length(&mut self) -> u64
+    pub fn front(&mut self) -> u64
         ensures told { LearnsLength self.old result self.new }
     {
         let word = self.shared.load::<Look>(&mut self.seat, 0);

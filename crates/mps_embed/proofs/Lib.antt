@@ -1,3 +1,4 @@
 mod Places
 mod Speaking
 mod Crossing
+mod Ends

@@ -38,11 +38,12 @@ pub record IsToNobody (before after : EmbeddedState) : Type 0 where
   pub room : after.room ≡ before.room
   pub numbers : after.numbers ≡ before.numbers
 
--- the room is new, and of the protocol that the text spells
+-- the room is new, and of the protocol that the text spells; before its first line the reply is `refused norole`
 pub record IsNewRoomOf (text : List ℕ) (e : EmbeddedState) : Type 0 where
   pub types : AreTypesOf text e.room.names e.room.types
   pub nothing : e.room.journal ≡ []
   pub unnumbered : All (λ n. n.newest ≡ None) e.numbers
+  pub unanswered : e.reply ≡ NoRole
 
 -- the front of the text, in place of the front of the bytes: what fits
 abbrev pub front_over : (text bytes : List ℕ) → List ℕ

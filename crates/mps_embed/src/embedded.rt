@@ -94,7 +94,8 @@ fn no_numbers() -> [Numbers; 8]
 }
 
 impl Embedded {
-    /// A room of a new session of the protocol that the text spells.
+    /// A room of a new session of the protocol that the text spells. Before the first line the answer is `refused
+    /// norole`.
     pub fn open(alloc: Global, text: &[u8]) -> Result<Embedded, Fault>
         ensures opened { IfOk result (IsNewRoomOf text.now) }
         ensures fault { IfErr result (GivesNoSession text.now) }

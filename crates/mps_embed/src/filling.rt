@@ -1,13 +1,14 @@
 //! Answers and entries into a buffer of the caller's.
-ghost use Rattle.std.specs.Prelude.{◌≡◌, ℕ, ◌≤◌, Some, None, [], length, slice_get, IfOk, OnOk, OnErr};
+ghost use Rattle.std.specs.Prelude.{◌≡◌, ℕ, ◌≤◌, Some, None, [], length, slice_get, Ok, IfOk, OnOk, OnErr};
 ghost use Rattle.mps_line.specs.JournalLines.{SpellsJournalLine, CanBeWritten};
 ghost use Rattle.mps_line.specs.Replies.{SpellsReply};
 ghost use Rattle.mps_room.specs.declared.entry.Entry.{Entry as Kept};
 ghost use Rattle.mps_embed.specs.Embedded.{front_over, IsFilled};
 
 use crate::embedded::Embedded;
-use mps_line::journal_lines::{has_journal_line, write_journal_line};
+use mps_line::journal_lines::write_journal_line;
 use mps_room::Room;
+use mps_wire::laws::each_entry_can_be_written;
 use mps_wire::write_outcome;
 use std::alloc::AllocError;
 
@@ -19,10 +20,20 @@ fn copy_front(text: &[u8], out: &mut [u8])
     out[..n].copy_from_slice(&text[..n]);
 }
 
+// Each entry of a room's journal has a line.
+fn each_has_a_line(room: &Room)
+    ensures { (k : ℕ) (entry : Kept) → slice_get room.now.journal k ≡ Some entry
+        → CanBeWritten room.now.names entry.role entry.command }
+{
+    let _legal = room.entries();
+    let _many = room.names();
+    let _peers = room.session().roles();
+    each_entry_can_be_written();
+}
+
 // Puts the line of the k-th entry in place of what the buffer had. Past the end that is nothing.
 fn put_entry(room: &Room, k: u64, text: &mut Vec<u8>) -> Result<(), AllocError>
     ensures line { (entry : Kept) → slice_get room.now.journal k ≡ Some entry
-        → CanBeWritten room.now.names entry.role entry.command
         → OnOk result (SpellsJournalLine room.now.names text.new.items entry.role None entry.command) }
     ensures past { length room.now.journal ≤ k → OnOk result (text.new.items ≡ []) }
 {
@@ -30,9 +41,7 @@ fn put_entry(room: &Room, k: u64, text: &mut Vec<u8>) -> Result<(), AllocError>
     let Some(entry) = room.entry(k)? else {
         return Ok(());
     };
-    if !has_journal_line(room.names(), entry.role, &entry.command) {
-        return Ok(());
-    }
+    each_has_a_line(room);
     write_journal_line(room.names(), entry.role, None, &entry.command, text)
 }
 
@@ -51,14 +60,14 @@ impl Embedded {
     }
 
     /// Writes the k-th entry of the journal, from 0, as a script's line, or as much of it as fits, and gives the
-    /// length of the whole line. Past the end that is 0.
+    /// length of the whole line. Past the end that is 0, and nowhere else.
     pub fn entry_into(&mut self, k: u64, out: &mut [u8]) -> Result<usize, AllocError>
         ensures same { self.new ≡ self.old }
         ensures line { (entry : Kept) → slice_get self.old.room.journal k ≡ Some entry
-            → CanBeWritten self.old.room.names entry.role entry.command
             → IfOk result (IsFilled
             (λ text. SpellsJournalLine self.old.room.names text entry.role None entry.command) out.old out.new) }
         ensures past { length self.old.room.journal ≤ k → IfOk result (λ n. (n ≡ 0) × (out.new ≡ out.old)) }
+        ensures empty { result ≡ Ok 0 → length self.old.room.journal ≤ k }
         ensures err { OnErr result (out.new ≡ out.old) }
     {
         let solo = &self.solo;

@@ -7,8 +7,8 @@ use Rattle.mps_dev.specs.declared.traits.Source.{Ghosts as SourceGhosts}
 use Rattle.mps_line.specs.Codes.{code_of}
 use Rattle.mps_line.specs.Replies.{SpellsReply}
 use Rattle.mps_line.specs.declared.write_replies.Reply.{Reply}
-use Rattle.mps_line.specs.declared.write_replies.Reply.TheVariants.{Answered, BadLine, Joined, NoSession, NoRole, Taken}
-use Rattle.mps_line.specs.declared.write_replies.Reply.TheVariants.{WrongNumber}
+use Rattle.mps_line.specs.declared.write_replies.Reply.TheVariants.{Answer as Answered, BadLine, Joined, NoSession, NoRole, Taken}
+use Rattle.mps_line.specs.declared.write_replies.Reply.TheVariants.{Number as WrongNumber}
 use Rattle.mps_lines.specs.Lines.{ended}
 use Rattle.mps_room.specs.declared.caller.Caller.{Ghosts}
 use Rattle.mps_wire.specs.Endings.{EndedAs}

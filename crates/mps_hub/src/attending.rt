@@ -15,7 +15,7 @@ use crate::desk::{Desk, JoinFault};
 use crate::first::{asked_for, first_line};
 use crate::gates::{Gate, Gated};
 use mps_base::Name;
-use mps_cell::{Pass, WaitingPass};
+use mps_cell::{Held, Pass};
 use mps_dev::{Failed, Sink, Source};
 use mps_keeper::{Disk, Hold, Keeper, LONGEST_LINE, Recorded};
 use mps_line::Reply;
@@ -129,7 +129,7 @@ fn line_space<S: Sink, D>(alloc: Global, keepers: &[Keeper<S, D>]) -> Result<Vec
 /// A role's pass in a connection: each command that comes passes the gate, and where it is accepted it is recorded.
 pub type Guest<'k, 'g, 'r, 'a, G, H, S, D> = Recorded<
     Hold<'k, H, S, D>,
-    Gated<'g, G, WaitingPass<'r, 'a, H>>,
+    Gated<'g, G, Held<'r, 'a, H>>,
 >;
 
 // Says that it joined, and converses. The pass stays one of its cell.
@@ -220,7 +220,7 @@ pub fn attend<
                 gate,
                 connection,
                 commands: 0,
-                inner: WaitingPass { rt, pass },
+                inner: Held { rt, pass },
             };
             let hold = Hold::new(rt, keeper_at(keepers, session - desk.first()));
             let mut caller = Recorded::new(hold, gated, line);

@@ -92,6 +92,8 @@ impl<'g, G: Gate, C: Recordable> Caller for Gated<'g, G, C> {
 }
 
 impl<'g, G: Gate, C: Recordable> Recordable for Gated<'g, G, C> {
+    ghost seen = { λ g. C.seen g.inner };
+
     fn own_role(&self) -> Role {
         self.inner.own_role()
     }

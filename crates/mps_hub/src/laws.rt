@@ -2,7 +2,7 @@
 ghost use Rattle.mps_wire.specs.Fidelity.{MeetsNoMismatch};
 
 use crate::gates::{Gate, Gated};
-use mps_cell::WaitingPass;
+use mps_cell::Held;
 use mps_room::Caller;
 use std::sync::Wait;
 
@@ -10,7 +10,7 @@ use std::sync::Wait;
 /// those of one protocol without faults. So no line that answers its conversation is `refused mismatch`: the law
 /// `no_conversation_meets_a_mismatch` of mps_wire.
 pub fn a_pass_meets_no_mismatch<H: Wait + 'static, G: Gate + 'static>()
-    ensures alone { MeetsNoMismatch ⟦<WaitingPass<'static, 'static, H> as Caller>⟧ (λ h. h.pass.opening.types) }
-    ensures gated { MeetsNoMismatch ⟦<Gated<'static, G, WaitingPass<'static, 'static, H>> as Caller>⟧
+    ensures alone { MeetsNoMismatch ⟦<Held<'static, 'static, H> as Caller>⟧ (λ h. h.pass.opening.types) }
+    ensures gated { MeetsNoMismatch ⟦<Gated<'static, G, Held<'static, 'static, H>> as Caller>⟧
         (λ g. g.inner.pass.opening.types) }
 {}

@@ -1,6 +1,6 @@
 //! Sessions that go on from where a recorded journal left them.
 ghost use Rattle.std.specs.Prelude.{◌≡◌, ◌<◌, ◌^◌, ℕ, Err, IfErr, IfOk, length, slice_get, Some};
-ghost use Rattle.mps_cell.specs.declared.waiting_pass.WaitingPass.{WaitingPass as WaitingPassOf};
+ghost use Rattle.mps_cell.specs.declared.held.Held.{Held as HeldOf};
 ghost use Rattle.mps_keeper.specs.declared.restore.RestoreFault.TheVariants.{Line as AtLine};
 ghost use Rattle.mps_keeper.specs.declared.restore.Unaccepted.{Unaccepted as UnacceptedAs};
 ghost use Rattle.mps_hub.specs.Places.{IsOfSession, IsSession};
@@ -8,7 +8,7 @@ ghost use Rattle.mps_hub.specs.Restoring.{AreInPlace, HasRestored, HasFaulted, I
 ghost use Rattle.mps_hub.specs.declared.restoring.SessionFault.TheVariants.{Journal as InJournal};
 
 use crate::desk::Desk;
-use mps_cell::WaitingPass;
+use mps_cell::Held;
 use mps_dev::Source;
 use mps_keeper::{RestoreFault, Restored, restore_from};
 use mps_room::Caller;
@@ -44,7 +44,7 @@ impl<'a> Desk<'a> {
         rt: &'r R,
         alloc: Global,
         session: u64,
-    ) -> Result<Vec<WaitingPass<'r, 'a, R>>, SessionFault>
+    ) -> Result<Vec<Held<'r, 'a, R>>, SessionFault>
         requires { IsSession self.now.first (length self.now.cells) session }
         ensures count { IfOk result (λ passes. length passes.items ≡ length self.now.names) }
         ensures in_place { IfOk result (λ passes. AreInPlace self.now session (λ h. h.pass) passes.items) }
@@ -54,7 +54,7 @@ impl<'a> Desk<'a> {
         let mut passes = Vec::with_capacity(alloc, roles)?;
         for role in 0..roles {
             match self.take_role(rt, session, role) {
-                Some(pass) => passes.push_reserved(WaitingPass { rt, pass }),
+                Some(pass) => passes.push_reserved(Held { rt, pass }),
                 None => return Err(SessionFault::Taken),
             }
         }
@@ -62,7 +62,7 @@ impl<'a> Desk<'a> {
     }
 
     // Puts passes of a session back.
-    fn give_all<R: Wait>(&self, rt: &R, session: u64, mut passes: Vec<WaitingPass<'_, 'a, R>>)
+    fn give_all<R: Wait>(&self, rt: &R, session: u64, mut passes: Vec<Held<'_, 'a, R>>)
         requires session { IsSession self.now.first (length self.now.cells) session }
         requires in_place { AreInPlace self.now session (λ h. h.pass) passes.items }
     {
@@ -83,11 +83,11 @@ impl<'a> Desk<'a> {
         requires session { IsSession self.now.first (length self.now.cells) session }
         requires reads { S.calls reader.old < 2 ^ 62 }
         ensures ok { IfOk result
-            (λ r. HasRestored ⟦<WaitingPass<'static, 'static, R> as Caller>⟧ (λ h. h.pass) S.Source self.now session
+            (λ r. HasRestored ⟦<Held<'static, 'static, R> as Caller>⟧ (λ h. h.pass) S.Source self.now session
             reader.old reader.new r.lines r.bytes) }
         ensures fault { (line : ℕ) (why : UnacceptedAs)
             → result ≡ Err (InJournal (AtLine (record { line = line; fault = why })))
-            → HasFaulted ⟦<WaitingPass<'static, 'static, R> as Caller>⟧ (λ h. h.pass) S.Source self.now session
+            → HasFaulted ⟦<Held<'static, 'static, R> as Caller>⟧ (λ h. h.pass) S.Source self.now session
             reader.old reader.new line why }
     {
         let mut passes = match self.take_all(rt, alloc, session) {

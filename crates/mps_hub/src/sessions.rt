@@ -133,12 +133,24 @@ impl Hub {
         ensures fault { IfErr result (λ fault. fault ≢ OpenFault.Memory → KeepsShut (map plain types.now) fault) }
     {
         let made = sessions_of(alloc, types, sessions)?;
-        Ok(Hub::of(alloc, names, 1, made)?)
+        Ok(Hub::of(alloc, names, made)?)
     }
 
-    /// A hub of these sessions, in their order, in which nothing was done yet. The first of them has that number, and
-    /// those after it the next ones. Where memory runs out they are dropped.
-    pub fn of(
+    /// A hub of these sessions, in their order, numbered from 1, in which nothing was done yet. Where memory runs out they
+    /// are dropped.
+    pub fn of(alloc: Global, names: &Roles, sessions: Vec<Session>) -> Result<Hub, AllocError>
+        requires some { (1 ≤ length sessions.items) × (length sessions.items ≤ 16) }
+        requires new { All (IsNew names.now) sessions.items }
+        ensures names { IfOk result (λ h. h.names ≡ names.now) }
+        ensures first { IfOk result (λ h. h.first ≡ 1) }
+        ensures given { IfOk result (λ h. h.given ≡ false) }
+        ensures cells { IfOk result (λ h. AreCellsOf names.now 1 sessions.items h.cells) }
+    {
+        Hub::of_numbered(alloc, names, 1, sessions)
+    }
+
+    /// The same, where the first session has that number, and those after it the next ones.
+    pub fn of_numbered(
         alloc: Global,
         names: &Roles,
         first: u64,

@@ -1,12 +1,15 @@
 //! Callers whose commands can be recorded.
+ghost use Rattle.std.specs.Prelude.{length};
 
 use crate::recorder::Recordable;
 use mps_base::Role;
-use mps_cell::WaitingPass;
+use mps_cell::Held;
 use mps_room::{Position, Solo};
 use std::sync::Wait;
 
 impl Recordable for Solo {
+    ghost seen = { λ s. length s.room.journal };
+
     fn own_role(&self) -> Role {
         self.role
     }
@@ -20,7 +23,9 @@ impl Recordable for Solo {
     }
 }
 
-impl<'r, 'a, R: Wait> Recordable for WaitingPass<'r, 'a, R> {
+impl<'r, 'a, R: Wait> Recordable for Held<'r, 'a, R> {
+    ghost seen = { λ h. length h.pass.seen };
+
     fn own_role(&self) -> Role {
         self.pass.role()
     }

@@ -52,6 +52,9 @@ pub trait Recorder {
 
 /// A caller that knows its role, where a number stands, and how much of the journal its last call showed.
 pub trait Recordable: Caller {
+    // How many entries its last call showed.
+    ghost seen: { Self → ℕ };
+
     /// Its role.
     fn own_role(&self) -> Role
         ensures { result ≡ Self.role self.now };
@@ -61,6 +64,6 @@ pub trait Recordable: Caller {
         ensures { IsPosition (Self.last self.now) number result };
 
     /// How many entries its last call showed. Where that was accepted its own entry is the last of them.
-    /// Unproved: no clause says so.
-    fn seen(&self) -> u64;
+    fn seen(&self) -> u64
+        ensures { result ≡ seen self.now };
 }

@@ -1,6 +1,7 @@
 pub mod Splitting
 pub mod CommandLines
 pub mod Writing
+pub mod Spellings
 pub mod OneSpelling
 pub mod ShownLines
 pub mod OneReply

@@ -12,7 +12,7 @@ use Rattle.mps_base.proofs.Values.{shown}
 use Rattle.mps_command.specs.declared.answer.Answer.TheVariants.{Done, Undone, News, Shown}
 use Rattle.mps_command.specs.declared.command.Command.{Command}
 use Rattle.mps_line.specs.declared.write_replies.Reply.{Reply}
-use Rattle.mps_line.specs.declared.write_replies.Reply.TheVariants.{Answered, Joined}
+use Rattle.mps_line.specs.declared.write_replies.Reply.TheVariants.{Answer as Answered, Joined}
 use Rattle.mps_line.specs.Tokens.{Token, Word, Number, Show, SpellsShow, SpellsToken, SpellEach, SpellsLine}
 use Rattle.mps_line.proofs.Splitting.{alone}
 use Rattle.mps_line.specs.Commands.{command_tokens, SpellsCommand, SpellsScriptLine, SpellsNumbered}

@@ -10,7 +10,7 @@ use Rattle.mps_command.specs.Shown.{IsShownText}
 use Rattle.mps_command.specs.declared.answer.Answer.TheVariants.{Refused}
 use Rattle.mps_command.specs.declared.answer.Refusal.TheVariants.{Violation as Violates, NoStep, NotYours, NoMark, Full, Memory}
 use Rattle.mps_command.specs.declared.answer.Violation.{Violation}
-use Rattle.mps_line.specs.declared.write_replies.Reply.TheVariants.{Answered, BadLine, NoSession, NoRole, Taken, WrongNumber}
+use Rattle.mps_line.specs.declared.write_replies.Reply.TheVariants.{Answer as Answered, BadLine, NoSession, NoRole, Taken, Number as WrongNumber}
 use Rattle.mps_line.specs.Replies.{word_of, done_tokens, news_tokens, SpellsReply}
 use Rattle.mps_line.specs.Tokens.{Token, Word, Number, Show, SpellsNumber, SpellsToken, SpellsLine}
 use Rattle.mps_line.proofs.Splitting.{after_token, joined, alone, line_of_one}

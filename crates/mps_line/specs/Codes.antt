@@ -8,7 +8,7 @@ use Rattle.mps_command.specs.declared.answer.Refusal.TheVariants.{Violation as V
 use Rattle.mps_command.specs.declared.answer.Refusal.TheVariants.{Needed, NoMark, Full, Memory}
 use Rattle.mps_command.specs.declared.answer.Answer.TheVariants.{Refused}
 use Rattle.mps_line.specs.declared.write_replies.Reply.{Reply}
-use Rattle.mps_line.specs.declared.write_replies.Reply.TheVariants.{Answered, BadLine, NoSession, NoRole, Taken, WrongNumber}
+use Rattle.mps_line.specs.declared.write_replies.Reply.TheVariants.{Answer as Answered, BadLine, NoSession, NoRole, Taken, Number as WrongNumber}
 
 -- what a role's type doesn't allow: 1 to 7
 abbrev pub violation_code : Violation → ℕ

@@ -2,3 +2,4 @@
 pub mod Commands
 pub mod Replies
 pub mod Tokens
+pub mod Spellable

@@ -10,8 +10,8 @@ use Rattle.mps_command.specs.declared.answer.Refusal.TheVariants.{Needed, NoMark
 use Rattle.mps_command.specs.declared.answer.Answer.{Answer}
 use Rattle.mps_command.specs.declared.answer.Answer.TheVariants.{Done, Undone, News, Shown, Refused}
 use Rattle.mps_line.specs.declared.write_replies.Reply.{Reply}
-use Rattle.mps_line.specs.declared.write_replies.Reply.TheVariants.{Answered, BadLine, Joined, NoSession, NoRole, Taken}
-use Rattle.mps_line.specs.declared.write_replies.Reply.TheVariants.{WrongNumber}
+use Rattle.mps_line.specs.declared.write_replies.Reply.TheVariants.{Answer as Answered, BadLine, Joined, NoSession, NoRole, Taken}
+use Rattle.mps_line.specs.declared.write_replies.Reply.TheVariants.{Number as WrongNumber}
 use Rattle.mps_line.specs.Tokens.{Token, Word, Called, Number, Worth, Show, SpellsLine}
 
 -- the word for a refusal

@@ -10,6 +10,7 @@
 //! ```
 #![tactic(auto)]
 
+mod answer_texts;
 pub mod journal_lines;
 pub mod laws;
 mod line_parts;
@@ -20,9 +21,12 @@ pub mod read_replies;
 pub mod write_commands;
 pub mod write_replies;
 
+pub use answer_texts::answer_has_text;
 pub use journal_lines::{JournalLine, has_journal_line, read_journal_line, write_journal_line};
 pub use read_commands::{LineFault, read_command, read_script_line};
 pub use read_conversations::{asks_for_change, read_numbered};
 pub use read_replies::{read_answer, read_join};
-pub use write_commands::write_command;
-pub use write_replies::{Reply, write_answer, write_bad_line, write_refused};
+pub use write_commands::{append_command, write_command};
+pub use write_replies::{
+    Reply, append_answer, write_answer, write_bad_line, write_kept, write_refused,
+};

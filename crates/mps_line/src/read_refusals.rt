@@ -8,8 +8,8 @@ ghost use Rattle.mps_command.specs.declared.answer.Violation.{Violation};
 ghost use Rattle.mps_line.specs.Replies.{SpellsReply, refusal_tokens, word_of};
 ghost use Rattle.mps_line.specs.Private.Replies.{lone_words, own_word, own_words};
 ghost use Rattle.mps_line.specs.Tokens.{Word, SpellsLine};
-ghost use Rattle.mps_line.specs.declared.write_replies.Reply.TheVariants.{Answered, BadLine, NoSession, NoRole, Taken};
-ghost use Rattle.mps_line.specs.declared.write_replies.Reply.TheVariants.{WrongNumber};
+ghost use Rattle.mps_line.specs.declared.write_replies.Reply.TheVariants.{Answer as Answered, BadLine, NoSession, NoRole, Taken};
+ghost use Rattle.mps_line.specs.declared.write_replies.Reply.TheVariants.{Number as WrongNumber};
 
 use crate::line_parts::{after_word, read_step};
 use crate::read_commands::LineFault;
@@ -33,7 +33,7 @@ pub(crate) fn refused_reply(bytes: &[u8]) -> Result<Reply, LineFault>
         return Err(LineFault::Bad);
     };
     if let Some(refusal) = read_refusal(rest) {
-        return Ok(Reply::Answered(Answer::Refused(refusal)));
+        return Ok(Reply::Answer(Answer::Refused(refusal)));
     }
     match own_reply(rest) {
         Some(reply) => Ok(reply),
@@ -52,7 +52,7 @@ fn own_reply(word: &[u8]) -> Option<Reply>
         b"nosession" => Some(Reply::NoSession),
         b"norole" => Some(Reply::NoRole),
         b"taken" => Some(Reply::Taken),
-        b"number" => Some(Reply::WrongNumber),
+        b"number" => Some(Reply::Number),
         _ => None,
     }
 }

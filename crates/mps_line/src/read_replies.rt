@@ -9,7 +9,7 @@ ghost use Rattle.mps_line.specs.Replies.{SpellsJoin, SpellsReply, done_tokens, m
 ghost use Rattle.mps_line.specs.Private.Replies.{SpellsSteps};
 ghost use Rattle.mps_line.specs.Tokens.{Called, Number, SpellsLine, SpellsToken};
 ghost use Rattle.mps_line.specs.declared.write_replies.Reply.{Reply};
-ghost use Rattle.mps_line.specs.declared.write_replies.Reply.TheVariants.{Answered, Joined};
+ghost use Rattle.mps_line.specs.declared.write_replies.Reply.TheVariants.{Answer as Answered, Joined};
 
 use crate::line_parts::{after_word, read_count, read_step, split_at_space};
 use crate::read_commands::LineFault;
@@ -97,7 +97,7 @@ fn shown_reply(alloc: Global, bytes: &[u8]) -> Result<Reply, LineFault>
         return Err(LineFault::Bad);
     }
     match Vec::from_slice(alloc, bytes) {
-        Ok(text) => Ok(Reply::Answered(Answer::Shown(ShownText::of(text)))),
+        Ok(text) => Ok(Reply::Answer(Answer::Shown(ShownText::of(text)))),
         Err(_) => Err(LineFault::Memory),
     }
 }
@@ -127,7 +127,7 @@ fn done_reply(alloc: Global, bytes: &[u8]) -> Result<Reply, LineFault>
         return Err(LineFault::Bad);
     };
     let done = read_done(alloc, rest)?;
-    Ok(Reply::Answered(Answer::Done(done)))
+    Ok(Reply::Answer(Answer::Done(done)))
 }
 
 // The step of that number, and after it the message that it took, if there is one.
@@ -180,13 +180,13 @@ fn undone_reply(alloc: Global, bytes: &[u8]) -> Result<Reply, LineFault>
     ensures memory { IsErrOf result LineFault.Memory → (reply : Reply) × SpellsReply bytes.now reply }
 {
     if bytes == b"undone".as_slice() {
-        return Ok(Reply::Answered(Answer::Undone(StepIds::of(Vec::new(alloc)))));
+        return Ok(Reply::Answer(Answer::Undone(StepIds::of(Vec::new(alloc)))));
     }
     let Some(rest) = after_word(bytes, b"undone") else {
         return Err(LineFault::Bad);
     };
     let ids = read_steps(alloc, rest)?;
-    Ok(Reply::Answered(Answer::Undone(StepIds::of(ids))))
+    Ok(Reply::Answer(Answer::Undone(StepIds::of(ids))))
 }
 
 // `news` with the length of the journal, and the numbers of some steps, or of none.
@@ -216,7 +216,7 @@ fn news_reply(alloc: Global, bytes: &[u8]) -> Result<Reply, LineFault>
 fn news_of(length: u64, ids: Vec<StepId>) -> Reply
     ensures { result ≡ Answered (News length ids.items) }
 {
-    Reply::Answered(Answer::News {
+    Reply::Answer(Answer::News {
         length,
         ids: StepIds::of(ids),
     })

@@ -1,5 +1,5 @@
 //! How commands are written.
-ghost use Rattle.std.specs.Prelude.{◌≡◌, OnOk, OnErr, IsTrue, ◌↔◌};
+ghost use Rattle.std.specs.Prelude.{◌≡◌, IfOk, OnOk, OnErr, IsTrue, ◌↔◌};
 ghost use Rattle.std.specs.Io.{StartsWith};
 ghost use Rattle.mps_base.specs.Appends.{AppendsSuch};
 ghost use Rattle.mps_command.specs.declared.command.Command.TheVariants as commands;
@@ -11,10 +11,20 @@ use crate::line_parts::{write_count, write_name, write_role, write_step};
 use crate::read_commands::Verb;
 use mps_base::Roles;
 use mps_command::{Command, Forward};
-use std::alloc::AllocError;
+use std::alloc::{AllocError, Global};
+
+/// The line of the command, without a line break.
+pub fn write_command(alloc: Global, roles: &Roles, command: &Command) -> Result<Vec<u8>, AllocError>
+    requires known { NamesRolesOf roles.now command.now }
+    ensures { IfOk result (λ line. SpellsCommand roles.now line.items command.now) }
+{
+    let mut line = Vec::new(alloc);
+    append_command(roles, command, &mut line)?;
+    Ok(line)
+}
 
 /// Writes the command at the end, without a line break.
-pub fn write_command(roles: &Roles, command: &Command, out: &mut Vec<u8>) -> Result<(), AllocError>
+pub fn append_command(roles: &Roles, command: &Command, out: &mut Vec<u8>) -> Result<(), AllocError>
     requires known { NamesRolesOf roles.now command.now }
     ensures ok { OnOk result (AppendsSuch
         (λ text. SpellsCommand roles.now text command.now) out.old.items out.new.items) }

@@ -1,24 +1,25 @@
 //! The lines that answer others.
-ghost use Rattle.std.specs.Prelude.{◌≡◌, ℕ, List, [], ◌∷◌, ◌++◌, map, OnOk, OnErr};
+ghost use Rattle.std.specs.Prelude.{◌≡◌, ℕ, List, [], ◌∷◌, ◌++◌, map, IsTrue, IfOk, OnOk, OnErr};
 ghost use Rattle.std.specs.Io.{StartsWith};
 ghost use Rattle.mps_base.specs.Appends.{AppendsSuch};
 ghost use Rattle.mps_command.specs.declared.answer.Answer.TheVariants.{Refused};
 ghost use Rattle.mps_command.specs.declared.answer.Refusal.TheVariants.{Violation as Violates};
 ghost use Rattle.mps_line.specs.Tokens.{Token, Number, SpellsToken, SpellsLine};
 ghost use Rattle.mps_line.specs.Replies.{SpellsReply, message_token, done_tokens, undone_tokens, news_tokens};
-ghost use Rattle.mps_line.specs.declared.write_replies.Reply.TheVariants.{Answered, BadLine, Joined};
+ghost use Rattle.mps_line.specs.declared.write_replies.Reply.TheVariants.{Answer as Answered, BadLine, Joined};
 ghost use Rattle.mps_line.specs.Codes.{code_of, refusal_code, violation_code};
 
+use crate::answer_texts::{answer_has_text, pass_has_text};
 use crate::line_parts::{write_count, write_name, write_step};
 use mps_base::{Message, Name, StepId};
 use mps_command::{Answer, Done, Refusal, Violation};
-use std::alloc::AllocError;
+use std::alloc::{AllocError, Global};
 
 /// The reply to a line.
 #[derive(Debug, Drop)]
 pub enum Reply {
     /// The answer to the command that the line spells.
-    Answered(Answer),
+    Answer(Answer),
     /// The line is unreadable: it spells nothing that may come there.
     BadLine,
     /// The connection acts for the role of that name in that session from now on.
@@ -30,7 +31,7 @@ pub enum Reply {
     /// Another connection acts for the role.
     Taken,
     /// The number of the line is neither that of the last accepted one nor the one after it.
-    WrongNumber,
+    Number,
 }
 
 impl Reply {
@@ -39,13 +40,30 @@ impl Reply {
         ensures { result ≡ code_of self.now }
     {
         match self {
-            Reply::Answered(Answer::Refused(refusal)) => refusal_code(refusal),
+            Reply::Answer(Answer::Refused(refusal)) => refusal_code(refusal),
             Reply::BadLine => 14,
             Reply::NoSession => 15,
             Reply::NoRole => 16,
             Reply::Taken => 17,
-            Reply::WrongNumber => 19,
-            Reply::Answered(_) | Reply::Joined { .. } => 0,
+            Reply::Number => 19,
+            Reply::Answer(_) | Reply::Joined { .. } => 0,
+        }
+    }
+
+    /// Whether the reply has a text, which each reply has; by `one_reply_line` it has just one. It does not allocate, so
+    /// it can be asked where there is no memory left to write the text.
+    pub fn has_text(&self) -> bool
+        ensures always { IsTrue result }
+        ensures text { (text : List ℕ) × SpellsReply text self.now }
+    {
+        match self {
+            Reply::Answer(answer) => answer_has_text(answer),
+            Reply::BadLine => true,
+            Reply::Joined { session, name } => pass_has_text(*session, name),
+            Reply::NoSession => true,
+            Reply::NoRole => true,
+            Reply::Taken => true,
+            Reply::Number => true,
         }
     }
 
@@ -70,13 +88,13 @@ impl Reply {
         ensures err { OnErr result (StartsWith out.new.items out.old.items) }
     {
         match self {
-            Reply::Answered(answer) => write_answer(answer, out),
+            Reply::Answer(answer) => append_answer(answer, out),
             Reply::BadLine => write_bad_line(out),
             Reply::Joined { session, name } => write_joined(*session, name, out),
             Reply::NoSession => out.extend_from_slice(b"refused nosession"),
             Reply::NoRole => out.extend_from_slice(b"refused norole"),
             Reply::Taken => out.extend_from_slice(b"refused taken"),
-            Reply::WrongNumber => out.extend_from_slice(b"refused number"),
+            Reply::Number => out.extend_from_slice(b"refused number"),
         }
     }
 }
@@ -102,9 +120,27 @@ fn write_joined(session: u64, name: &Name, out: &mut Vec<u8>) -> Result<(), Allo
     write_name(name, out)
 }
 
+/// The line of the reply, without a line break.
+pub fn write_answer(alloc: Global, reply: &Reply) -> Result<Vec<u8>, AllocError>
+    ensures { IfOk result (λ line. SpellsReply line.items reply.now) }
+{
+    let mut line = Vec::new(alloc);
+    reply.write(&mut line)?;
+    Ok(line)
+}
+
+/// The line of an answer that is kept for its number, without a line break: that of its reply.
+pub fn write_kept(alloc: Global, answer: &Answer) -> Result<Vec<u8>, AllocError>
+    ensures { IfOk result (λ line. SpellsReply line.items (Answered answer.now)) }
+{
+    let mut line = Vec::new(alloc);
+    append_answer(answer, &mut line)?;
+    Ok(line)
+}
+
 /// Writes the answer at the end, without a line break. Where memory runs out, a part of it may stand there.
 #[inline(always)]
-pub fn write_answer(answer: &Answer, out: &mut Vec<u8>) -> Result<(), AllocError>
+pub fn append_answer(answer: &Answer, out: &mut Vec<u8>) -> Result<(), AllocError>
     ensures ok { OnOk result (AppendsSuch
         (λ text. SpellsReply text (Answered answer.now)) out.old.items out.new.items) }
     ensures err { OnErr result (StartsWith out.new.items out.old.items) }
@@ -121,7 +157,7 @@ pub fn write_answer(answer: &Answer, out: &mut Vec<u8>) -> Result<(), AllocError
     }
 }
 
-/// Writes that a command is refused, at the end, without a line break: what `write_answer` writes of such an answer.
+/// Writes that a command is refused, at the end, without a line break: what `append_answer` writes of such an answer.
 /// Where memory runs out, a part of it may stand there.
 pub fn write_refused(refusal: &Refusal, out: &mut Vec<u8>) -> Result<(), AllocError>
     ensures ok { OnOk result (AppendsSuch

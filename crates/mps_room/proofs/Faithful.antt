@@ -16,7 +16,7 @@ use Rattle.mps_room.specs.Journal.{after_command, run_from, run, limited, answer
 use Rattle.mps_room.specs.declared.entry.Entry.{Entry}
 
 -- the state after the commands of a journal is one that the machine comes to
-run_sound : (types : List LocalType) (st : State) (j : List Entry) → IsSound types st → IsSound types (run_from types st j)
+pub run_sound : (types : List LocalType) (st : State) (j : List Entry) → IsSound types st → IsSound types (run_from types st j)
 run_sound types st [] ok = ok
 run_sound types st (e ∷ j) ok = run_sound types (after_command types st e.role e.command) j (after_sound e.command)
   where

@@ -28,7 +28,7 @@ mod would;
 
 pub use alike::same;
 pub use gist::Gist;
-pub use mps_command::{Done, Forward, Refusal, StepIds, Violation};
+pub use mps_command::{Command, Done, Forward, Refusal, StepIds, Violation};
 pub use mps_local::LocalFault;
 pub use mps_log::{Moves, Queue};
 pub use mps_table::Expect;

@@ -8,7 +8,7 @@ ghost use Rattle.mps_local.specs.Actions.{head};
 ghost use Rattle.mps_history.specs.Slots.{value_in};
 ghost use Rattle.mps_machine.specs.Machine as machine;
 ghost use Rattle.mps_session.specs.Answers.{as_step};
-ghost use Rattle.mps_session.specs.Peers.{IsKnown, IsHeadKnown};
+ghost use Rattle.mps_session.specs.Peers.{HavePeers, IsKnown, IsHeadKnown};
 ghost use Rattle.mps_session.specs.SessionState.{session_view, moves_of};
 ghost use Rattle.mps_table.specs.Expects.{head_of};
 
@@ -31,11 +31,12 @@ impl Session {
         cursor.table.expect(cursor.node)
     }
 
-    /// How many roles the session has.
+    /// How many roles the session has. Each peer that a role's type names is another of them.
     pub fn roles(&self) -> usize
         ensures count { result ≡ length self.now.types }
         ensures some { 2 ≤ result }
         ensures few { result ≤ 8 }
+        ensures peers { HavePeers self.now.types }
     {
         self.types.len()
     }

@@ -21,4 +21,5 @@ pub mod table;
 pub use compiling::compile;
 pub use expect::{Expect, Node};
 pub use laws::nodes_lead;
+pub use mps_local::LocalFault;
 pub use table::Table;

@@ -102,7 +102,7 @@ fn length_asked(pass: &mut Pass<'_>, until: Until) -> Option<Outcome> {
     if until == Until::Before {
         return Some(Outcome::Reached);
     }
-    let length = pass.length();
+    let length = pass.front();
     if until == Until::After {
         return Some(Outcome::Reached);
     }

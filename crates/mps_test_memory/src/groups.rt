@@ -87,7 +87,7 @@ const CALLS: &[(&str, Call)] = &[
     ("Session::would", Call::Would),
     ("same", Call::Same),
     ("Session::rollback-same", Call::Untried),
-    ("Pass::length", Call::Length),
+    ("Pass::front", Call::Length),
     ("meet", Call::Meet),
     ("least_dependent", Call::LeastDependent),
     ("mark_from", Call::MarkFrom),

@@ -8,7 +8,7 @@ use mps_base::{Role, Roles, StepId};
 use mps_command::{Answer, StepIds};
 use mps_dev::{Pieces, Short};
 use mps_hub::{Attended, Desk, Hub, Unguarded, attend, no_keepers};
-use mps_line::{LineFault, read_answer, read_command, write_answer};
+use mps_line::{LineFault, append_answer, read_answer, read_command};
 use mps_room::{Room, Solo};
 use mps_session::Session;
 use mps_show::write_show;
@@ -77,7 +77,7 @@ fn writes_to(answer: &Answer, text: &mut Vec<u8>, until: Until) -> Option<Outcom
     if until == Until::Before {
         return Some(Outcome::Reached);
     }
-    let is_written = write_answer(answer, text).is_ok();
+    let is_written = append_answer(answer, text).is_ok();
     if until == Until::After {
         return Some(Outcome::Reached);
     }
@@ -236,7 +236,7 @@ fn hub(alloc: Global) -> Option<Hub>
 {
     let (names, session) = opened(alloc)?;
     let sessions = vec![in alloc; session].ok()?;
-    Hub::of(alloc, &names, 1, sessions).ok()
+    Hub::of(alloc, &names, sessions).ok()
 }
 
 // How the connection ends.

@@ -8,7 +8,7 @@ use mps_base::{Role, Roles, StepId};
 use mps_cell::Pass;
 use mps_command::{Answer, Command, Forward, Refusal, StepIds};
 use mps_global::Protocol;
-use mps_line::{read_script_line, write_answer};
+use mps_line::{append_answer, read_script_line};
 use mps_room::Room;
 use mps_session::{Session, open_protocol};
 use mps_show::write_show;
@@ -164,7 +164,7 @@ impl Party for Roomed {
 
     fn state(&mut self) -> Option<Vec<u8>> {
         let mut text = Vec::new(self.alloc);
-        write_answer(&self.ask(Role::new(0), Command::Show)?, &mut text).ok()?;
+        append_answer(&self.ask(Role::new(0), Command::Show)?, &mut text).ok()?;
         text.extend_from_slice(&self.room.entries().to_le_bytes())
             .ok()?;
         text.extend_from_slice(&self.room.session().issued().to_le_bytes())
@@ -190,8 +190,8 @@ impl<'r, 'c, R: Wait> Party for Passes<'r, 'c, R> {
     fn state(&mut self) -> Option<Vec<u8>> {
         let pass = self.all.get_mut(0)?;
         let mut text = Vec::new(self.alloc);
-        write_answer(&pass.call(self.rt, Command::Show), &mut text).ok()?;
-        text.extend_from_slice(&pass.length().to_le_bytes()).ok()?;
+        append_answer(&pass.call(self.rt, Command::Show), &mut text).ok()?;
+        text.extend_from_slice(&pass.front().to_le_bytes()).ok()?;
         Some(text)
     }
 }
@@ -226,7 +226,7 @@ fn are_done<P: Party>(alloc: Global, names: &Roles, party: &mut P, lines: &[&str
 
 fn text_of(alloc: Global, answer: &Answer) -> Option<Vec<u8>> {
     let mut text = Vec::new(alloc);
-    write_answer(answer, &mut text).ok()?;
+    append_answer(answer, &mut text).ok()?;
     Some(text)
 }
 

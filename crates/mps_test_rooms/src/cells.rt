@@ -5,7 +5,7 @@ use crate::numbers;
 use crate::numbers::are_numbered;
 use crate::texts::{TWO_PAIRS, VERDICT, asked, opened, told};
 use mps_base::{Name, Role, StepId, Value};
-use mps_cell::{Busy, Cell, Deal, Leave, Pass, PassFault, Pause, WaitingPass, meet};
+use mps_cell::{Busy, Cell, Deal, Held, Leave, Pass, PassFault, Pause, meet};
 use mps_command::{Answer, Command, Forward};
 use mps_room::{Caller, Room};
 use std::alloc::Global;
@@ -348,7 +348,7 @@ struct Probe<'a, 'b> {
 fn same_lengths(pass: &mut Pass<'_>, length: u64, times: u64) -> u64 {
     let mut same = 0;
     for _ in 0..times {
-        if pass.length() == length {
+        if pass.front() == length {
             same = u64::wrapping_add(same, 1);
         }
     }
@@ -366,7 +366,7 @@ fn found_busy(pass: &mut Pass<'_>) -> Option<u64> {
 impl Pause for Probe<'_, '_> {
     fn pause(&mut self) {
         self.pauses = u64::wrapping_add(self.pauses, 1);
-        self.length = self.other.length();
+        self.length = self.other.front();
         self.same = same_lengths(self.other, self.length, 1000);
         self.busy = found_busy(self.other);
     }
@@ -388,7 +388,7 @@ fn probed<R: Wait>(rt: &R, a: &mut Pass<'_>, c: &mut Pass<'_>) -> Option<bool> {
             && probe.length == 0
             && probe.same == 1000
             && probe.busy == Some(0)
-            && probe.other.length() == 1,
+            && probe.other.front() == 1,
     )
 }
 
@@ -752,10 +752,7 @@ fn undone_text<C: Caller>(alloc: Global, caller: &mut C) -> Result<String, Fail>
 }
 
 // Whether the rows come to what they say, one after the other, and then an undo with no number.
-fn goes_by_numbers<R: Wait>(
-    alloc: Global,
-    caller: &mut WaitingPass<'_, '_, R>,
-) -> Result<bool, Fail> {
+fn goes_by_numbers<R: Wait>(alloc: Global, caller: &mut Held<'_, '_, R>) -> Result<bool, Fail> {
     are_numbered(alloc, caller, NUMBERED)?;
     Ok(
         caller.pass.seen() == 3
@@ -765,10 +762,10 @@ fn goes_by_numbers<R: Wait>(
 }
 
 // The pass of the first role, and what it waits by.
-fn first_waiting<'r, 'a, R: Wait>(rt: &'r R, cell: &'a mut Cell) -> Option<WaitingPass<'r, 'a, R>> {
+fn first_waiting<'r, 'a, R: Wait>(rt: &'r R, cell: &'a mut Cell) -> Option<Held<'r, 'a, R>> {
     let mut all = cell.passes().ok()?;
     all.truncate(1);
-    Some(WaitingPass {
+    Some(Held {
         rt,
         pass: all.pop()?,
     })

@@ -4,7 +4,7 @@ ghost use Rattle.mps_machine.specs.Machine.{initial};
 
 use mps_base::{Role, Roles};
 use mps_command::{Answer, Command};
-use mps_line::{read_script_line, write_answer};
+use mps_line::{append_answer, read_script_line};
 use mps_room::Room;
 use mps_session::{Session, open_protocol};
 use mps_text::read_protocol;
@@ -47,6 +47,6 @@ pub(crate) fn asked(alloc: Global, names: &Roles, line: &str) -> Result<(Role, C
 // The answer as its line.
 pub(crate) fn told(alloc: Global, answer: &Answer) -> Result<String, Fail> {
     let mut text = Vec::new(alloc);
-    write_answer(answer, &mut text)?;
+    append_answer(answer, &mut text)?;
     Ok(String::from_utf8(text)?)
 }

@@ -295,7 +295,7 @@ fn hub_of_two(alloc: Global, first: u64) -> Result<Hub, Fail>
     if second.roles() != names.count() {
         return Err("three roles".into());
     }
-    Ok(Hub::of(alloc, &names, first, vec![in alloc; one, second]?)?)
+    Ok(Hub::of_numbered(alloc, &names, first, vec![in alloc; one, second]?)?)
 }
 
 #[test]

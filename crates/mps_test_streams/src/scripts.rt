@@ -12,7 +12,7 @@ use mps_lines::MAX_LINE;
 use mps_local::{Branches, Local};
 use mps_session::{LocalFault, OpenFault};
 use mps_wire::script::BLOCK;
-use mps_wire::{ReplayFault, replay, run_script};
+use mps_wire::{ReplayFault, replay, replay_session};
 use std::alloc::Global;
 use std::test::Fail;
 
@@ -526,7 +526,7 @@ fn left_of(
     requires writes { writer.old.failed_calls ≡ 0 }
 {
     let (roles, session) = opened(alloc, RELAY)?;
-    match run_script(alloc, reader, writer, roles, session) {
+    match replay_session(alloc, reader, writer, roles, session) {
         Ok(room) => Ok(Ok((
             room.entries(),
             room.session().len(),

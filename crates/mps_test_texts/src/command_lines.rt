@@ -4,7 +4,7 @@ ghost use Rattle.mps_line.specs.Commands.{NamesRolesOf};
 use mps_base::{Name, Role, Roles, Value};
 use mps_command::{Command, Forward};
 use mps_line::laws::{one_command, one_numbered};
-use mps_line::{LineFault, read_command, read_numbered, read_script_line, write_command};
+use mps_line::{LineFault, append_command, read_command, read_numbered, read_script_line};
 use std::alloc::{AllocGlobal, Global};
 use std::process::Abort;
 
@@ -203,7 +203,7 @@ fn again(alloc: Global, roles: &Roles, command: &Command) -> Result<(Vec<u8>, Co
 {
     let (_one, _distinct) = (one_command(), roles.count());
     let mut line = Vec::new(alloc);
-    write_command(roles, command, &mut line)?;
+    append_command(roles, command, &mut line)?;
     let read = read_command(alloc, roles, &line);
     prove!(!matches!(&read, Err(LineFault::Bad)));
     Ok((line, read?))
@@ -386,7 +386,7 @@ fn is_written(rt: &(impl Abort + AllocGlobal), roles: &Roles, command: &Command,
     requires { NamesRolesOf roles.now command.now }
 {
     let mut text = Vec::new(rt.alloc());
-    write_command(roles, command, &mut text).expect(rt, "memory");
+    append_command(roles, command, &mut text).expect(rt, "memory");
     text.as_slice() == line.as_bytes()
 }
 

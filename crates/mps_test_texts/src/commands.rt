@@ -1,6 +1,6 @@
 use mps_base::{Name, Role, Roles, StepId};
 use mps_command::*;
-use mps_line::{Reply, read_answer, read_command, write_answer};
+use mps_line::{Reply, append_answer, read_answer, read_command};
 use std::alloc::AllocGlobal;
 use std::process::Abort;
 
@@ -163,7 +163,7 @@ fn is_copied_answer(rt: &(impl Abort + AllocGlobal), answer: &Answer) -> bool {
 // The answer of the reply, if it is one.
 fn answered(reply: Reply) -> Option<Answer> {
     match reply {
-        Reply::Answered(answer) => Some(answer),
+        Reply::Answer(answer) => Some(answer),
         _ => None,
     }
 }
@@ -202,7 +202,7 @@ const LINES: &[&str] = &["done 2 5", "undone 4 3 2 1", "news 5 3 2"];
 fn is_copied_line(rt: &(impl Abort + AllocGlobal), line: &str) -> bool {
     let copied = answer(rt, line).copy(rt.alloc()).expect(rt, "memory");
     let mut text = Vec::new(rt.alloc());
-    write_answer(&copied, &mut text).expect(rt, "memory");
+    append_answer(&copied, &mut text).expect(rt, "memory");
     text.as_slice() == line.as_bytes()
 }
 

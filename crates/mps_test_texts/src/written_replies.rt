@@ -13,7 +13,7 @@ fn is_written(rt: &(impl Abort + AllocGlobal), reply: &Reply, line: &str) {
 
 // The same of the answer alone.
 fn is_answer(rt: &(impl Abort + AllocGlobal), answer: Answer, line: &str) {
-    is_written(rt, &Reply::Answered(answer), line);
+    is_written(rt, &Reply::Answer(answer), line);
 }
 
 fn is_done(rt: &(impl Abort + AllocGlobal), number: u64, got: Option<Message>, line: &str) {
@@ -142,5 +142,5 @@ fn refused_lines(rt: HostRuntime) {
     is_written(&rt, &Reply::NoSession, "#refused nosession");
     is_written(&rt, &Reply::NoRole, "#refused norole");
     is_written(&rt, &Reply::Taken, "#refused taken");
-    is_written(&rt, &Reply::WrongNumber, "#refused number");
+    is_written(&rt, &Reply::Number, "#refused number");
 }

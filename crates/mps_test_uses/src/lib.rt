@@ -8,3 +8,5 @@ mod embedding;
 mod rooms;
 #[cfg(test)]
 mod sessions;
+#[cfg(test)]
+mod surface;

@@ -13,7 +13,7 @@ use std::alloc::Global;
 use std::test::Fail;
 
 // The roles of the relay, and a new session of it.
-fn relay(alloc: Global) -> Result<(Roles, Session), Fail>
+pub(crate) fn relay(alloc: Global) -> Result<(Roles, Session), Fail>
     ensures new { IfOk result (λ r. r.1.state ≡ initial) }
     ensures names { IfOk result (λ r. length r.0 ≡ 3) }
     ensures types { IfOk result (λ r. length r.1.types ≡ 3) }

@@ -5,7 +5,7 @@ use Rattle.std.specs.List.{AllByRecursion, flat_map}
 use Rattle.std.proofs.lemmas.Option.{same_Some}
 use Rattle.mps_line.specs.Replies.{SpellsReply}
 use Rattle.mps_line.specs.declared.write_replies.Reply.{Reply}
-use Rattle.mps_line.specs.declared.write_replies.Reply.TheVariants.{Answered}
+use Rattle.mps_line.specs.declared.write_replies.Reply.TheVariants.{Answer as Answered}
 use Rattle.mps_line.proofs.ShownLines.{no_line_feed}
 use Rattle.mps_local.specs.Local.{LocalType}
 use Rattle.mps_room.specs.declared.caller.Caller.{Ghosts}

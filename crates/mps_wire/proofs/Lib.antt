@@ -11,3 +11,4 @@ pub mod Calling
 pub mod Conversing
 pub mod Making
 pub mod Replying
+pub mod Written

@@ -16,7 +16,7 @@ use Rattle.mps_line.specs.Tokens.{RoleAt, SpellEach}
 use Rattle.mps_line.proofs.ShownLines.{shown_line}
 use Rattle.mps_room.specs.declared.entry.Entry.{Entry}
 use Rattle.mps_room.specs.Journal.{grown, answer_to, is_accepted, MayAnswer}
-use Rattle.mps_line.specs.declared.write_replies.Reply.TheVariants.{Answered}
+use Rattle.mps_line.specs.declared.write_replies.Reply.TheVariants.{Answer as Answered}
 use Rattle.mps_command.specs.declared.answer.Answer.{Answer}
 use Rattle.mps_wire.specs.Script.{IsReadable, RepliesInScript, AnswersLine}
 use Rattle.mps_wire.specs.Private.Commands.{IsReplied}

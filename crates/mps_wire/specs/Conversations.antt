@@ -7,7 +7,7 @@ use Rattle.mps_command.specs.declared.command.Command.{Command}
 use Rattle.mps_line.specs.Commands.{SpellsNumbered}
 use Rattle.mps_line.specs.Replies.{SpellsReply}
 use Rattle.mps_line.specs.declared.write_replies.Reply.{Reply}
-use Rattle.mps_line.specs.declared.write_replies.Reply.TheVariants.{Answered, WrongNumber}
+use Rattle.mps_line.specs.declared.write_replies.Reply.TheVariants.{Answer as Answered, Number as WrongNumber}
 use Rattle.mps_lines.specs.Lines.{ended, max_line}
 use Rattle.mps_room.specs.Numbers.{IsNumbered}
 use Rattle.mps_room.specs.declared.caller.Caller.{Ghosts}

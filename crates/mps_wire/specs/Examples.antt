@@ -6,7 +6,7 @@ use Rattle.mps_command.specs.declared.answer.Answer.TheVariants.{Undone, Refused
 use Rattle.mps_command.specs.declared.answer.Refusal.TheVariants.{NoStep}
 use Rattle.mps_command.specs.declared.command.Command.{Command}
 use Rattle.mps_line.specs.declared.write_replies.Reply.{Reply}
-use Rattle.mps_line.specs.declared.write_replies.Reply.TheVariants.{Answered, WrongNumber}
+use Rattle.mps_line.specs.declared.write_replies.Reply.TheVariants.{Answer as Answered, Number as WrongNumber}
 use Rattle.mps_machine.specs.Examples.{done}
 use Rattle.mps_room.specs.Examples.{PlainCaller, plain_caller, Tells, send_five, mark_m, mark_k, undo_nine, undo_three}
 use Rattle.mps_room.specs.Examples.{at_first, after_one, after_two, after_a_call, after_three}

@@ -1,9 +1,12 @@
 //! What holds of the answers to whole scripts and conversations.
-ghost use Rattle.std.specs.Prelude.{◌≡◌, ◌≢◌, ◌++◌, ℕ, List, [], codes};
+ghost use Rattle.std.specs.Prelude.{◌≡◌, ◌≢◌, ◌++◌, ℕ, List, [], Some, codes, length, slice_get};
 ghost use Rattle.std.specs.List.{AllByRecursion};
 ghost use Rattle.mps_fidelity.specs.Fidelity.{AreOfOneProtocol};
+ghost use Rattle.mps_line.specs.JournalLines.{CanBeWritten};
 ghost use Rattle.mps_local.specs.Local.{LocalType};
+ghost use Rattle.mps_room.specs.Journal.{IsLegal};
 ghost use Rattle.mps_room.specs.declared.entry.Entry.{Entry};
+ghost use Rattle.mps_session.specs.Peers.{HavePeers};
 ghost use Rattle.mps_wire.specs.Answers.{AnswersBytes, AnswersBrokenOff, AnswersLines, BreaksOffAnywhere};
 ghost use Rattle.mps_wire.specs.Answers.{OfAllLines, OfWholeLines};
 ghost use Rattle.mps_wire.specs.Fidelity.{HasNoMismatch, MeetsNoMismatch};
@@ -75,4 +78,12 @@ pub fn no_conversation_meets_a_mismatch<C: Caller>()
 /// No call of a room's caller is answered `Mismatch`, where the opening types are those of one protocol without faults.
 pub fn a_room_meets_no_mismatch()
     ensures { MeetsNoMismatch ⟦<Solo as Caller>⟧ (λ s. s.room.types) }
+{}
+
+/// Each entry of a journal has a line: where each peer that an opening type names is another of the roles, an accepted
+/// command names one of them.
+pub fn each_entry_can_be_written()
+    ensures { (names : List (List ℕ)) (types : List LocalType) (j : List Entry) (k : ℕ) (entry : Entry)
+        → HavePeers types → length names ≡ length types → IsLegal names types j → slice_get j k ≡ Some entry
+        → CanBeWritten names entry.role entry.command }
 {}

@@ -1,6 +1,6 @@
 //! Scripts and conversations over streams: lines from blocks of bytes, and the answers to them.
 //!
-//! `run_script` runs a script of all roles' commands on a session. `converse` is one role's conversation over any
+//! `replay_session` runs a script of all roles' commands on a session. `converse` is one role's conversation over any
 //! reader and writer: a line, and then its answer.
 //!
 //! ```
@@ -17,5 +17,6 @@ pub mod script;
 pub mod sending;
 
 pub use conversation::{Ending, converse};
+pub use mps_lines::{Line, Lines};
 pub use reply::{Outcome, take_line, write_outcome};
-pub use script::{ReplayFault, replay, run_script};
+pub use script::{ReplayFault, replay, replay_session};

@@ -9,7 +9,7 @@ ghost use Rattle.mps_wire.specs.Conversations.{RepliesTo, reply_of};
 
 use mps_command::{Answer, Command, Refusal};
 use mps_line::laws::one_numbered;
-use mps_line::{LineFault, Reply, read_numbered, write_answer};
+use mps_line::{LineFault, Reply, append_answer, read_numbered};
 use mps_lines::MAX_LINE;
 use mps_room::{Caller, Told};
 use std::alloc::{AllocError, Global};
@@ -33,8 +33,8 @@ fn take_numbered<C: Caller>(caller: &mut C, number: u64, command: Command) -> Ou
     match caller.call_numbered(number, command) {
         Told::Fresh => Outcome::Kept,
         Told::Kept => Outcome::Kept,
-        Told::Wrong => Outcome::Reply(Reply::WrongNumber),
-        Told::Refused(refusal) => Outcome::Reply(Reply::Answered(Answer::Refused(refusal))),
+        Told::Wrong => Outcome::Reply(Reply::Number),
+        Told::Refused(refusal) => Outcome::Reply(Reply::Answer(Answer::Refused(refusal))),
     }
 }
 
@@ -48,9 +48,9 @@ pub fn take_line<C: Caller>(alloc: Global, caller: &mut C, line: &[u8]) -> Outco
     }
     match read_numbered(alloc, caller.roles(), line) {
         Ok((Some(number), command)) => take_numbered(caller, number, command),
-        Ok((None, command)) => Outcome::Reply(Reply::Answered(caller.call(command))),
+        Ok((None, command)) => Outcome::Reply(Reply::Answer(caller.call(command))),
         Err(LineFault::Bad) => Outcome::Reply(Reply::BadLine),
-        Err(LineFault::Memory) => Outcome::Reply(Reply::Answered(Answer::Refused(Refusal::Memory))),
+        Err(LineFault::Memory) => Outcome::Reply(Reply::Answer(Answer::Refused(Refusal::Memory))),
     }
 }
 
@@ -67,9 +67,9 @@ pub fn write_outcome<C: Caller>(
     match outcome {
         Outcome::Reply(reply) => reply.write(out),
         Outcome::Kept => match caller.kept() {
-            Some(answer) => write_answer(answer, out),
+            Some(answer) => append_answer(answer, out),
             // no outcome of `take_line` leads here: it gives `Outcome::Kept` only where an answer is kept
-            None => Reply::WrongNumber.write(out),
+            None => Reply::Number.write(out),
         },
     }
 }

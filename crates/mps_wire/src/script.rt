@@ -20,7 +20,7 @@ use mps_base::{Role, Roles};
 use mps_command::{Command, Refusal};
 use mps_dev::{Failed, Sink, Source};
 use mps_line::laws::one_script_line;
-use mps_line::{LineFault, read_script_line, write_answer, write_bad_line, write_refused};
+use mps_line::{LineFault, append_answer, read_script_line, write_bad_line, write_refused};
 use mps_lines::{MAX_LINE, keep, line_end};
 use mps_local::Local;
 use mps_room::Room;
@@ -79,7 +79,7 @@ fn reply_with_news(
     ensures { OnOk result (IsReplied room.now.names room.now.types room.now.journal role (News known)
         room.now.journal answers.old.items answers.new.items) }
 {
-    write_answer(&room.answer_news(role, known), answers)
+    append_answer(&room.answer_news(role, known), answers)
 }
 
 // Writes, after the other answers, how the session stands.
@@ -88,7 +88,7 @@ fn reply_with_show(room: &Room, answers: &mut Vec<u8>) -> Result<(), AllocError>
     ensures { (role : ℕ) → OnOk result (IsReplied room.now.names room.now.types room.now.journal role Show
         room.now.journal answers.old.items answers.new.items) }
 {
-    write_answer(&room.answer_show(), answers)
+    append_answer(&room.answer_show(), answers)
 }
 
 // Gives the role's command to the room, and writes the answer after the others. Questions are answered apart, so that
@@ -108,7 +108,7 @@ fn reply_to_command(
     match command {
         Command::News(known) => reply_with_news(room, role, known, answers),
         Command::Show => reply_with_show(room, answers),
-        change => write_answer(&room.apply(role, change), answers),
+        change => append_answer(&room.apply(role, change), answers),
     }
 }
 
@@ -297,7 +297,7 @@ fn read_and_answer<R: Source, W: Sink>(
 ///
 /// The answers to the lines of one read are written before the next read. A last line needs no LF.
 /// The reader is asked for `BLOCK` bytes at a time, `MAX_READS` times at most.
-pub fn run_script<R: Source, W: Sink>(
+pub fn replay_session<R: Source, W: Sink>(
     alloc: Global,
     reader: &mut R,
     writer: &mut W,
@@ -329,7 +329,7 @@ pub fn run_script<R: Source, W: Sink>(
 }
 
 /// Opens a session with these types, and runs the script that the reader gives on it, as
-/// `run_script` does.
+/// `replay_session` does.
 pub fn replay<R: Source, W: Sink>(
     alloc: Global,
     reader: &mut R,
@@ -346,5 +346,5 @@ pub fn replay<R: Source, W: Sink>(
     ensures reads { R.calls reader.new ≤ R.calls reader.old + max_reads }
 {
     let session = Session::open(alloc, types)?;
-    run_script(alloc, reader, writer, roles, session)
+    replay_session(alloc, reader, writer, roles, session)
 }

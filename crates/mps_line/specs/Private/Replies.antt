@@ -2,7 +2,7 @@
 use Rattle.std.specs.Prelude.{ℕ, ◌<◌, List, [], ◌∷◌, length, map, codes}
 use Rattle.mps_line.specs.declared.write_replies.Reply.{Reply}
 use Rattle.mps_line.specs.declared.write_replies.Reply.TheVariants.{BadLine, NoSession, NoRole, Taken}
-use Rattle.mps_line.specs.declared.write_replies.Reply.TheVariants.{WrongNumber}
+use Rattle.mps_line.specs.declared.write_replies.Reply.TheVariants.{Number as WrongNumber}
 use Rattle.mps_line.specs.Tokens.{Number, SpellsLine}
 
 -- the words of refusals that are neither violations nor name a step

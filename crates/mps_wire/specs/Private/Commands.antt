@@ -6,7 +6,7 @@ use Rattle.mps_command.specs.declared.answer.Answer.{Answer}
 use Rattle.mps_command.specs.declared.command.Command.{Command}
 use Rattle.mps_line.specs.Replies.{SpellsReply}
 use Rattle.mps_line.specs.declared.write_replies.Reply.{Reply}
-use Rattle.mps_line.specs.declared.write_replies.Reply.TheVariants.{Answered}
+use Rattle.mps_line.specs.declared.write_replies.Reply.TheVariants.{Answer as Answered}
 use Rattle.mps_room.specs.Journal as journals
 use Rattle.mps_room.specs.Journal.{grown, MayAnswer}
 use Rattle.mps_room.specs.Numbers.{IsNumbered}

@@ -1,7 +1,7 @@
 use Rattle.std.proofs.Common.{rules, sym, ap, Err}
 use Rattle.std.specs.Prelude.{codes}
 use Rattle.mps_command.specs.declared.answer.Answer.TheVariants.{Done as Accepted}
-use Rattle.mps_line.specs.declared.write_replies.Reply.TheVariants.{Answered}
+use Rattle.mps_line.specs.declared.write_replies.Reply.TheVariants.{Answer as Answered}
 use Rattle.mps_line.specs.Replies.{done_tokens}
 use Rattle.mps_line.proofs.ReplyLines.{word_in_front, rest_of_word, no_word_in_front, some_done}
 use Rattle.mps_line.proofs.read_replies.done_reply.Goals as goal

@@ -1,7 +1,7 @@
 use Rattle.std.specs.Prelude.{◌≡◌, [], ◌∷◌, map, codes}
 use Rattle.std.proofs.Common.{arith, rules, sym, ap, Err}
 use Rattle.mps_command.specs.declared.answer.Answer.TheVariants.{News}
-use Rattle.mps_line.specs.declared.write_replies.Reply.TheVariants.{Answered}
+use Rattle.mps_line.specs.declared.write_replies.Reply.TheVariants.{Answer as Answered}
 use Rattle.mps_line.specs.Tokens.{Number}
 use Rattle.mps_line.proofs.ReplyLines.{rest_of_word, no_word_in_front, news_none, news_some, no_news_alone, parted_news}
 use Rattle.mps_line.proofs.read_replies.news_reply.Goals as goal

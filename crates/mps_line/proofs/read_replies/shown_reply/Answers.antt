@@ -2,7 +2,7 @@ use Rattle.std.proofs.Common.{◌∙◌, sym, refl}
 use Rattle.std.proofs.lemmas.Bool.{false≢true}
 use Rattle.std.specs.Prelude.{[]}
 use Rattle.mps_command.specs.declared.answer.Answer.TheVariants.{Shown}
-use Rattle.mps_line.specs.declared.write_replies.Reply.TheVariants.{Answered}
+use Rattle.mps_line.specs.declared.write_replies.Reply.TheVariants.{Answer as Answered}
 use Rattle.mps_line.specs.Tokens.{Show}
 use Rattle.mps_line.proofs.Splitting.{alone}
 use Rattle.mps_line.proofs.ReplyLines.{shown_read}

@@ -1,6 +1,6 @@
 use Rattle.std.specs.Prelude.{◌≡◌, []}
 use Rattle.mps_command.specs.declared.answer.Answer.TheVariants.{Undone}
-use Rattle.mps_line.specs.declared.write_replies.Reply.TheVariants.{Answered}
+use Rattle.mps_line.specs.declared.write_replies.Reply.TheVariants.{Answer as Answered}
 use Rattle.std.proofs.Common.{rules, sym, ap, Err}
 use Rattle.mps_line.proofs.Splitting.{is_word, is_no_word}
 use Rattle.mps_line.proofs.ReplyLines.{undone_none, undone_some, undone_steps, steps_of_undone}

@@ -5,7 +5,7 @@ use Rattle.mps_command.specs.declared.command.Command.TheVariants.{Forward}
 use Rattle.mps_command.specs.declared.command.Forward.TheVariants.{Send}
 use Rattle.mps_base.specs.declared.value.Value.TheVariants.{Text}
 use Rattle.mps_line.specs.Commands.{SpellsScriptLine}
-use Rattle.mps_line.specs.declared.write_replies.Reply.TheVariants.{Answered, BadLine}
+use Rattle.mps_line.specs.declared.write_replies.Reply.TheVariants.{Answer as Answered, BadLine}
 use Rattle.mps_wire.proofs.Serving.{role_within, spelled_ascii, answers_line, answers_command}
 use Rattle.mps_wire.proofs.script.reply_to_line.Goals as goal
 

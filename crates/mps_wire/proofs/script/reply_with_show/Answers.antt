@@ -6,5 +6,5 @@ pub returns : goal.returns
 returns c role =
     let m = c.args.room.now in
     let a = c.answer_show.result in
-    answered m.names m.types m.journal role Show m.journal a c.write_answer.result c.args.answers.now.items c.write_answer.new.out.items
-    (c.answer_show.ensures.answer role) (unchanged m.journal role Show a c.answer_show.ensures.asked) c.write_answer.ensures.ok
+    answered m.names m.types m.journal role Show m.journal a c.append_answer.result c.args.answers.now.items c.append_answer.new.out.items
+    (c.answer_show.ensures.answer role) (unchanged m.journal role Show a c.answer_show.ensures.asked) c.append_answer.ensures.ok

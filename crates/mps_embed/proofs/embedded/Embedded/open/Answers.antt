@@ -1,4 +1,4 @@
-use Rattle.std.proofs.Common.{◌≡◌, ◌∙◌, None, sym, ap, subst}
+use Rattle.std.proofs.Common.{◌≡◌, ◌∙◌, None, refl, sym, ap, subst}
 use Rattle.std.proofs.lemmas.List.Elements.{All-set}
 use Rattle.mps_open.specs.Texts.{AreTypesOf}
 use Rattle.mps_room.specs.RoomState.{RoomState}
@@ -12,4 +12,5 @@ returns-clause-opened c =
       types = subst (λ (m : RoomState). AreTypesOf c.args.text.now m.names m.types) (sym room) c.in_ok-roles.ensures.types;
       nothing = ap (λ (m : RoomState). m.journal) room;
       unnumbered = All-set (λ (n : Numbers). n.newest ≡ None) c.no_numbers.result c.new-2.result.role c.new-2.result.numbers c.new-2.ensures.numbers c.no_numbers.ensures.none;
+      unanswered = refl;
     }

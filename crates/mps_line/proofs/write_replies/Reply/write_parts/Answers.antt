@@ -12,5 +12,5 @@ returns-in-NoRole-clause-ok c = rw c.in-NoRole.is (appends_ok _ _ _ (codes "refu
 pub returns-in-Taken-clause-ok : goal.returns-in-Taken-clause-ok
 returns-in-Taken-clause-ok c = rw c.in-Taken.is (appends_ok _ _ _ (codes "refused taken") _ c.extend_from_slice-in-Taken.ensures.items taken)
 
-pub returns-in-WrongNumber-clause-ok : goal.returns-in-WrongNumber-clause-ok
-returns-in-WrongNumber-clause-ok c = rw c.in-WrongNumber.is (appends_ok _ _ _ (codes "refused number") _ c.extend_from_slice-in-WrongNumber.ensures.items wrong_number)
+pub returns-in-Number-clause-ok : goal.returns-in-Number-clause-ok
+returns-in-Number-clause-ok c = rw c.in-Number.is (appends_ok _ _ _ (codes "refused number") _ c.extend_from_slice-in-Number.ensures.items wrong_number)

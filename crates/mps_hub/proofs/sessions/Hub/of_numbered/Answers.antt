@@ -4,7 +4,7 @@ use Rattle.mps_session.specs.SessionState.{SessionState}
 use Rattle.mps_cell.specs.Cells.{Opened, Dealt, opened_with}
 use Rattle.mps_hub.specs.Halls.{AreCellsOf, AreDeals}
 use Rattle.mps_hub.proofs.Cells.{cells_push, deals_push}
-use Rattle.mps_hub.proofs.sessions.Hub.of.Goals as goal
+use Rattle.mps_hub.proofs.sessions.Hub.of_numbered.Goals as goal
 
 pub loop-session-preserved : goal.loop-session-preserved
 loop-session-preserved c =

@@ -5,7 +5,7 @@ use Rattle.mps_room.proofs.Numbering.{some_kept}
 use Rattle.mps_cell.specs.Calls.{Known, Calls, carried}
 use Rattle.mps_cell.proofs.Answering.{calls_carried}
 use Rattle.mps_cell.proofs.Numbering.{accepted_call}
-use Rattle.mps_cell.proofs.waiting_pass.WaitingPassCaller.call_numbered.Goals as goal
+use Rattle.mps_cell.proofs.held.HeldCaller.call_numbered.Goals as goal
 
 -- what the numbers of the pass say, they say of it
 pub returns-in-Last : goal.returns-in-Last

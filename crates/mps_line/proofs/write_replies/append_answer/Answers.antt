@@ -1,5 +1,5 @@
 use Rattle.mps_line.proofs.Writing.{done_before, show_written}
-use Rattle.mps_line.proofs.write_replies.write_answer.Goals as goal
+use Rattle.mps_line.proofs.write_replies.append_answer.Goals as goal
 
 pub returns-in_ok-extend_from_slice-in-Done-clause-ok :
     goal.returns-in_ok-extend_from_slice-in-Done-clause-ok

@@ -4,7 +4,7 @@ use Rattle.mps_wire.specs.Runs.{Going, GaveAtLeast}
 use Rattle.mps_wire.specs.Script.{AnswersLine}
 use Rattle.mps_wire.specs.Streams.{Counts, all_went_well, streams}
 use Rattle.mps_wire.specs.declared.script.TheConstants.{BLOCK}
-use Rattle.mps_wire.proofs.script.run_script.Given as goal
+use Rattle.mps_wire.proofs.script.replay_session.Given as goal
 
 abbrev pub invariant-loop : goal.invariant-loop
 invariant-loop g l =

@@ -1,7 +1,7 @@
 use Rattle.std.proofs.Common.{◌≡◌, ◌+◌, ◌≤◌, ◌++◌, length, vec_capacity}
 use Rattle.std.specs.Vec.Iter.{into_iter_items}
 use Rattle.mps_hub.specs.Halls.{AreCellsOf, AreDeals}
-use Rattle.mps_hub.proofs.sessions.Hub.of.Given as goal
+use Rattle.mps_hub.proofs.sessions.Hub.of_numbered.Given as goal
 
 abbrev pub invariant-loop-session : goal.invariant-loop-session
 invariant-loop-session l = record {

@@ -1,6 +1,6 @@
 use Rattle.std.proofs.Common.{arith}
 use Rattle.mps_cell.proofs.Keeping.{looks}
-use Rattle.mps_cell.proofs.pass.Pass.length.Goals as goal
+use Rattle.mps_cell.proofs.pass.Pass.front.Goals as goal
 
 pub load-word-requires : goal.load-word-requires
 load-word-requires c = (c.self.invariant.cell, omega arith, looks _ _ _ _)

@@ -7,12 +7,12 @@ use std::sync::Wait;
 
 /// A pass, with what it waits by.
 #[derive(Drop)]
-pub struct WaitingPass<'r, 'a, R: Wait> {
+pub struct Held<'r, 'a, R: Wait> {
     pub rt: &'r R,
     pub pass: Pass<'a>,
 }
 
-impl<'r, 'a, R: Wait> Caller for WaitingPass<'r, 'a, R> {
+impl<'r, 'a, R: Wait> Caller for Held<'r, 'a, R> {
     ghost use Rattle.std.proofs.Common.{ap, true};
     ghost use Rattle.mps_room.specs.Numbers.{last_of, kept_of};
     ghost use Rattle.mps_cell.specs.Openings.{Opening};

@@ -9,7 +9,7 @@ use Rattle.mps_wire.proofs.Carrying.{turned}
 use Rattle.mps_session.proofs.PassedOn.{passed_on}
 use Rattle.mps_wire.proofs.Outcomes.{same_counts, counts_more, breaks, at_end, before_end, starts_starved}
 use Rattle.mps_wire.proofs.Turning.{begun, gave_none, gave_more, gave_fewer}
-use Rattle.mps_wire.proofs.script.run_script.Goals as goal
+use Rattle.mps_wire.proofs.script.replay_session.Goals as goal
 
 pub returns-in_err-block-clause-outcome : goal.returns-in_err-block-clause-outcome
 returns-in_err-block-clause-outcome g c =

@@ -1,0 +1,127 @@
+//! The law that each answer has a text. A local such as `_number` reads what its proof needs to know: that a number is
+//! in its range, or that bytes are a name's or a text's.
+ghost use Rattle.std.specs.Prelude.{ℕ, ◌<◌, ◌^◌, List, IsTrue};
+ghost use Rattle.std.specs.List.{AllByRecursion};
+ghost use Rattle.mps_base.specs.declared.value.Value.TheVariants as values;
+ghost use Rattle.mps_command.specs.declared.answer.Answer.TheVariants.{Refused};
+ghost use Rattle.mps_line.specs.Replies.{SpellsReply, answer_tokens, done_tokens, message_token};
+ghost use Rattle.mps_line.specs.Private.Spellable.{AreSpellable, IsSpellable};
+ghost use Rattle.mps_line.specs.Tokens.{Worth};
+ghost use Rattle.mps_line.specs.declared.write_replies.Reply.TheVariants.{Answer as Answered, Joined};
+
+use mps_base::{Message, Name, StepId, Value};
+use mps_command::{Answer, Done, Refusal};
+
+/// Whether the answer has a text, which each answer has. It does not allocate, so it can be asked where
+/// there is none left to write the text.
+pub fn answer_has_text(answer: &Answer) -> bool
+    ensures always { IsTrue result }
+    ensures text { (text : List ℕ) × SpellsReply text (Answered answer.now) }
+{
+    answer_is_spellable(answer);
+    true
+}
+
+// Whether a text says that the connection acts for the role of that name.
+pub(crate) fn pass_has_text(session: u64, name: &Name) -> bool
+    ensures always { IsTrue result }
+    ensures text { (text : List ℕ) × SpellsReply text (Joined session name.now) }
+{
+    let _name = name.as_bytes();
+    let _session = session;
+    true
+}
+
+// The parts of each answer have spellings.
+fn answer_is_spellable(answer: &Answer)
+    ensures { AreSpellable (answer_tokens answer.now) }
+{
+    match answer {
+        Answer::Done(done) => done_is_spellable(done),
+        Answer::Undone(ids) => ids_are_small(ids.as_slice()),
+        Answer::News { length, ids } => {
+            count_is_small(*length);
+            ids_are_small(ids.as_slice());
+        }
+        Answer::Shown(text) => {
+            let _bytes = text.as_bytes();
+        }
+        Answer::Refused(refusal) => refusal_is_spellable(refusal),
+    }
+}
+
+// The number of each step and the message that it took have spellings.
+fn done_is_spellable(done: &Done)
+    ensures { AreSpellable (done_tokens done.now.id done.now.got) }
+{
+    let _number = done.id.number();
+    match &done.got {
+        Some(message) => message_is_spellable(message),
+        None => {}
+    }
+}
+
+// Each message has a spelling.
+fn message_is_spellable(message: &Message)
+    ensures { IsSpellable (message_token message.now) }
+{
+    match message {
+        Message::Value(value) => value_is_spellable(value),
+        Message::Label(label) => {
+            let _bytes = label.as_bytes();
+        }
+    }
+}
+
+// Each value has a spelling.
+#[tactic(auto, using(crate::proofs::Spellings::text))]
+fn value_is_spellable(value: &Value)
+    ensures { IsSpellable (Worth value.now) }
+{
+    match value {
+        Value::Int(number) => int_is_spellable(*number),
+        Value::Bool(_) => {}
+        Value::Text(text) => {
+            let _bytes = text.as_bytes();
+        }
+    }
+}
+
+// Each integer of 64 bits has a spelling.
+#[tactic(auto, using(crate::proofs::Spellings::int))]
+fn int_is_spellable(number: i64)
+    ensures { IsSpellable (Worth (values.Int number)) }
+{
+    let _number = number;
+}
+
+// The parts of each refusal have spellings.
+fn refusal_is_spellable(refusal: &Refusal)
+    ensures { AreSpellable (answer_tokens (Refused refusal.now)) }
+{
+    match refusal {
+        Refusal::Final { by } => {
+            let _number = by.number();
+        }
+        Refusal::Needed { by } => {
+            let _number = by.number();
+        }
+        _ => {}
+    }
+}
+
+// A count is below 2^64.
+fn count_is_small(count: u64)
+    ensures { count < 2 ^ 64 }
+{
+    let _count = count;
+}
+
+// And so is the number of each step.
+fn ids_are_small(ids: &[StepId])
+    ensures { AllByRecursion (λ n. n < 2 ^ 64) ids.now }
+{
+    for id in ids {
+        let _number = id.number();
+    }
+}

@@ -1,0 +1,666 @@
+//! Each name that callers of the libraries use, once, with its arguments: whoever renames one finds it here. A call that
+//! requires what can't be shown in a line is made by a function that requires the same.
+ghost use Rattle.std.specs.Prelude.{◌≡◌, ◌<◌, ◌≤◌, ◌^◌, [], None, IsSome, IsTrue, IfOk, length, false};
+ghost use Rattle.mps_arena.specs.Keys.{last_key};
+ghost use Rattle.mps_arena.specs.KeyedSteps.{HasSmallPeer, keyed_at, keys_of, steps};
+ghost use Rattle.mps_arena.specs.Neighbours.{CanGo, IsSource};
+ghost use Rattle.mps_base.specs.Effects.{effect};
+ghost use Rattle.mps_command.specs.Changes.{change_of};
+ghost use Rattle.mps_global.specs.Global.{plain as global_type};
+ghost use Rattle.mps_global.specs.Faults.{fault_of};
+ghost use Rattle.mps_history.specs.Steps.{receives, sends, step_of};
+ghost use Rattle.mps_hub.specs.Places.{IsOfSession, IsSession};
+ghost use Rattle.mps_line.specs.Commands.{NamesRolesOf};
+ghost use Rattle.mps_links.specs.Marks.{AreMarksClosed, marked_keys};
+ghost use Rattle.mps_local.specs.Local.{plain};
+ghost use Rattle.mps_local.specs.Shape.{AllPeers};
+ghost use Rattle.mps_machine.specs.Machine.{initial};
+ghost use Rattle.mps_queues.specs.Fronts.{AreFronts};
+ghost use Rattle.mps_table.specs.Graph.{HasNext, IsNode};
+
+use crate::rooms::relay;
+use crate::sessions::RELAY;
+use mps_arena::{Arena, Before, Key, Step};
+use mps_base::{Act, Message, Name, Role, Roles, Sort, StepId, Value, VarName};
+use mps_cell::{Busy, Cell, Held, Leave, Pass, PassFault, Pause, meet};
+use mps_command::{Answer, Command};
+use mps_dev::{OverRead, OverWrite, Pieces, Short, Sink, Source};
+use mps_global::{GlobalFault, Protocol, check};
+use mps_hub::{Desk, Gate, Hub, JoinFault, ServeFault, Served, serve, serve_with};
+use mps_line::{
+    LineFault, Reply, read_answer, read_command, read_join, read_numbered, read_script_line,
+    write_answer, write_command, write_kept,
+};
+use mps_links::{least_dependent, least_final, mark_from, unmark};
+use mps_local::{Local, LocalFault, ProjectFault, project, write_local};
+use mps_monitor::{Advance, Forward, Violation, judge};
+use mps_queues::Queues;
+use mps_room::{Caller, Room, Solo, Told};
+use mps_session::{Expect, OpenFault, ProtocolFault, Refusal, Session, open_protocol, same};
+use mps_stores::Stores;
+use mps_table::{Node, Table, compile};
+use mps_text::{TextFault, TextKind, read_protocol, write_protocol};
+use mps_wire::{Ending, Line, Lines, ReplayFault, converse, replay, replay_session};
+use std::alloc::{AllocError, Global};
+use std::cmp::Ordering;
+use std::net::TcpListener;
+use std::sync::Wait;
+use std::test::Fail;
+use std::thread::Threads;
+use std::time::Clock;
+
+fn a() -> Role
+    ensures { result ≡ 0 }
+{
+    Role::new(0)
+}
+
+fn b() -> Role
+    ensures { result ≡ 1 }
+{
+    Role::new(1)
+}
+
+// ---- names, values and acts
+
+#[test]
+fn names(rt: HostRuntime) -> Result<(), Fail> {
+    let alloc = rt.alloc();
+    let first = Name::read(b"a").expect(&rt, "a name");
+    let second = Name::read(b"b").expect(&rt, "a name");
+    assert!(rt; VarName::read(b"X").is_some());
+    let roles = Roles::of(alloc, &[first, second])?;
+    assert!(rt; roles.count() == 2 && roles.find(&second) == Some(b()));
+    assert!(rt; roles.name(b()).is_spelled(b"b"));
+    Ok(())
+}
+
+#[test]
+fn values(rt: HostRuntime) -> Result<(), Fail> {
+    let alloc = rt.alloc();
+    let value = Value::read(alloc, b"5")?;
+    let mut out = Vec::new(alloc);
+    value.write(&mut out)?;
+    assert!(rt; value.sort() == Sort::Int && out.as_slice() == b"5".as_slice());
+    let copied = value.copy(alloc)?;
+    assert!(rt; matches!(copied, Value::Int(5)));
+    Ok(())
+}
+
+// The kind of an act: an output is 0, an input 1, a mark 2, a commit 3.
+fn kind_of(act: &Act) -> u8 {
+    match act {
+        Act::Out {
+            to: _,
+            message: Message::Value(_),
+        } => 0,
+        Act::Out {
+            to: _,
+            message: Message::Label(_),
+        } => 0,
+        Act::In { from: _, slot: _ } => 1,
+        Act::Mark(_) => 2,
+        Act::Commit => 3,
+    }
+}
+
+#[test]
+fn acts(rt: HostRuntime) {
+    assert!(rt; kind_of(&Act::Commit) == 3);
+    assert!(rt;
+        kind_of(&Act::In {
+            from: a(),
+            slot: None
+        }) == 1
+    );
+}
+
+// ---- protocols and types
+
+#[test]
+fn protocols(rt: HostRuntime) -> Result<(), Fail> {
+    let alloc = rt.alloc();
+    let protocol = read_protocol(alloc, RELAY)?;
+    check(&protocol)?;
+    let text = write_protocol(alloc, &protocol)?;
+    assert!(rt; text.as_slice() == RELAY);
+    Ok(())
+}
+
+// Whether a text of too many nodes has such faults, of the text and of the protocol.
+fn are_of_size(text: TextFault, protocol: GlobalFault, local: LocalFault) -> bool {
+    let TextFault { at: _, kind } = text;
+    kind == TextKind::TooManyNodes
+        && protocol == GlobalFault::TooManyNodes
+        && local == LocalFault::TooManyNodes
+}
+
+#[test]
+fn faults_of_size(rt: HostRuntime) {
+    let text = TextFault {
+        at: 0,
+        kind: TextKind::TooManyNodes,
+    };
+    assert!(rt; are_of_size(text, GlobalFault::TooManyNodes, LocalFault::TooManyNodes));
+}
+
+// The type of a role, as text.
+fn type_of(alloc: Global, roles: &Roles, tree: &Local) -> Result<Vec<u8>, AllocError>
+    requires { AllPeers (λ peer. peer < length roles.now) (plain tree.now) }
+{
+    let copied = tree.copy(alloc)?;
+    drop(copied);
+    write_local(alloc, roles, tree)
+}
+
+// The type of a role of a protocol.
+fn projected(alloc: Global, protocol: &Protocol, role: Role) -> Result<Local, ProjectFault>
+    requires well_formed { fault_of protocol.now.roles.items (global_type protocol.now.body) ≡ None }
+    requires in_session { role < length protocol.now.roles.items }
+{
+    project(alloc, protocol, role)
+}
+
+#[test]
+fn tables(rt: HostRuntime) -> Result<(), Fail> {
+    let table = compile(rt.alloc(), &Local::End)?;
+    assert!(rt; matches!(table.expect(table.first()), Expect::End));
+    Ok(())
+}
+
+// The node after that one.
+fn node_after(table: &Table, node: Node, choice: Option<usize>) -> Node
+    requires { HasNext table.now node choice }
+{
+    table.after(node, choice)
+}
+
+#[test]
+fn verdicts(rt: HostRuntime) -> Result<(), Fail> {
+    let sent = Forward::Send {
+        to: b(),
+        value: Value::Int(5),
+    };
+    assert!(rt; judge(Expect::Send(b(), Sort::Int), &sent, None) == Ok(Advance::Next));
+    assert!(rt; judge(Expect::End, &sent, None) == Err(Violation::Ended));
+    Ok(())
+}
+
+// ---- steps with links
+
+// A step joins, and is there.
+fn add(arena: &mut Arena, role: Role, act: Act, source: Option<Key>) -> Result<Key, AllocError>
+    requires role { role < 8 }
+    requires peer { HasSmallPeer (effect act) }
+    requires source { IsSource arena.old.keyed_steps role (effect act) source }
+{
+    let key = arena.reserve_one()?;
+    arena.add(role, act, Before { at: 0, bound: None }, source);
+    Ok(key)
+}
+
+#[test]
+fn steps_with_links(rt: HostRuntime) -> Result<(), Fail> {
+    let mut arena = Arena::new(rt.alloc());
+    add(&mut arena, a(), Act::Commit, None)?;
+    let key = arena.by_id(StepId::new(1));
+    assert!(rt; key.is_some() && key == arena.first() && key == arena.last());
+    assert!(rt; key == arena.last_of(a()) && arena.last_send(a(), b()).is_none());
+    Ok(())
+}
+
+// A step and its neighbours.
+fn neighbours(arena: &Arena, key: Key) -> (Role, [Option<Key>; 7])
+    requires { IsSome (keyed_at key arena.now.keyed_steps) }
+{
+    let Step {
+        id: _,
+        role,
+        act: _,
+    } = arena.get(key);
+    let keys = [
+        arena.next(key),
+        arena.prev(key),
+        arena.next_of_role(key),
+        arena.prev_of_role(key),
+        arena.next_send(key),
+        arena.prev_send(key),
+        arena.receipt(key),
+    ];
+    (*role, keys)
+}
+
+// A step is marked and goes.
+fn mark_and_remove(arena: &mut Arena, key: Key) -> bool
+    requires some { IsSome (keyed_at key arena.old.keyed_steps) }
+    requires goes { CanGo arena.old.keyed_steps key }
+{
+    let marked = arena.marked(key);
+    arena.remove(key);
+    marked
+}
+
+// Whether the step is marked then.
+fn set_mark(arena: &mut Arena, key: Key)
+    requires { IsSome (keyed_at key arena.old.keyed_steps) }
+{
+    arena.set_mark(key, true);
+}
+
+#[test]
+fn queues(rt: HostRuntime) {
+    let queues = Queues::new();
+    assert!(rt; queues.front(a(), b()).is_none());
+}
+
+fn push(queues: &mut Queues, key: Key) {
+    queues.push(a(), b(), key);
+}
+
+fn take(queues: &mut Queues, arena: &Arena) -> Option<Key>
+    requires { AreFronts arena.now.keyed_steps queues.old }
+{
+    queues.take(arena, a(), b())
+}
+
+fn put_back(queues: &mut Queues, arena: &Arena)
+    requires fronts { AreFronts arena.now.keyed_steps queues.old }
+    requires some { IsSome (last_key None (keys_of (receives 0 1) arena.now.keyed_steps)) }
+{
+    queues.put_back(arena, a(), b());
+}
+
+fn drop_last(queues: &mut Queues, arena: &Arena)
+    requires fronts { AreFronts arena.now.keyed_steps queues.old }
+    requires some { IsSome (last_key None (keys_of (sends 0 1) arena.now.keyed_steps)) }
+{
+    queues.drop_last(arena, a(), b());
+}
+
+#[test]
+fn stores(rt: HostRuntime) -> Result<(), Fail> {
+    let mut arena = Arena::new(rt.alloc());
+    let key = arena.reserve_one()?;
+    let name = Name::read(b"x").expect(&rt, "a name");
+    let mut stores = Stores::new(rt.alloc())?;
+    assert!(rt; stores.bind(a(), &name, key)?.is_none());
+    assert!(rt; stores.get(a(), &name) == Some(key) && stores.entries(a()).len() == 1);
+    stores.unbind(a(), &name, None);
+    Ok(())
+}
+
+// Whether the step has a dependent, how many depend on it, and the least commit among these.
+fn dependents(arena: &mut Arena, id: StepId) -> (Option<StepId>, usize, Option<StepId>)
+    requires present { IsSome (step_of (steps arena.old.keyed_steps) id) }
+    requires unmarked { marked_keys arena.old.keyed_steps ≡ [] }
+{
+    let least = least_dependent(&*arena, id);
+    let count = mark_from(arena, id);
+    let commit = least_final(&*arena);
+    unmark(arena);
+    (least, count, commit)
+}
+
+// ---- sessions
+
+// A session in which `a` sent a number.
+fn sent(alloc: Global) -> Result<Session, Fail>
+    ensures { IfOk result (λ s. length s.types ≡ 3) }
+{
+    let protocol = read_protocol(alloc, RELAY)?;
+    let mut session = open_protocol(alloc, &protocol)?;
+    if session.roles() != 3 {
+        return Err("three roles".into());
+    }
+    let value = Value::Int(5);
+    session.forward(a(), Forward::Send { to: b(), value })?;
+    Ok(session)
+}
+
+#[test]
+fn sessions(rt: HostRuntime) -> Result<(), Fail> {
+    let mut session = sent(rt.alloc())?;
+    assert!(rt; session.issued() == 1 && session.len() == 1 && session.step(0).is_some());
+    assert!(rt; session.message(a(), b(), 0).is_some());
+    session.undo(a(), StepId::new(1))?;
+    assert!(rt; matches!(session.expect(a()), Expect::Send(_, Sort::Int)));
+    Ok(())
+}
+
+#[test]
+fn sessions_taken_back(rt: HostRuntime) -> Result<(), Fail> {
+    let mut session = sent(rt.alloc())?;
+    let name = Name::read(b"m").expect(&rt, "a name");
+    assert!(rt; matches!(session.back(a(), &name), Err(Refusal::NoMark)));
+    assert!(rt; session.would(a(), &Command::Rollback(StepId::new(2))) == Err(Refusal::NoStep));
+    assert!(rt; session.rollback(a(), StepId::new(1))?.as_slice().len() == 1);
+    assert!(rt; session.slot(b(), &name).is_none());
+    Ok(())
+}
+
+#[test]
+fn sessions_compared(rt: HostRuntime) -> Result<(), Fail> {
+    let session = sent(rt.alloc())?;
+    assert!(rt; same(&session, &session));
+    Ok(())
+}
+
+#[test]
+fn sessions_refused(rt: HostRuntime) {
+    let none = Session::open(rt.alloc(), Vec::new(rt.alloc()));
+    assert!(rt; matches!(none, Err(OpenFault::RoleCount)));
+}
+
+// Whether a protocol gives no session for the fault of one of its roles.
+fn is_unmergeable(fault: ProtocolFault) -> bool {
+    match fault {
+        ProtocolFault::Global(_) => false,
+        ProtocolFault::Unmergeable { role: _, choice: _ } => true,
+        ProtocolFault::Memory => false,
+    }
+}
+
+// ---- rooms and their callers
+
+#[test]
+fn rooms(rt: HostRuntime) -> Result<(), Fail> {
+    let alloc = rt.alloc();
+    let (names, session) = relay(alloc)?;
+    let mut room = Room::open(alloc, names, session);
+    let name = Name::read(b"m").expect(&rt, "a name");
+    let done = room.apply(a(), Command::Forward(Forward::Mark { name }));
+    assert!(rt; matches!(done, Answer::Done(_)) && room.entries() == 1);
+    assert!(rt; room.entry(0)?.is_some() && room.session().len() == 1);
+    let (length, _) = room.news(a(), 0)?;
+    assert!(rt; length == 1);
+    let _shown = room.show()?;
+    Ok(())
+}
+
+// What the caller keeps of its numbered commands after the command.
+fn kept_after<C: Caller>(caller: &mut C, command: Command) -> bool
+    requires { IsSome (change_of command) }
+{
+    let told = caller.call_numbered(1, command);
+    match told {
+        Told::Fresh => caller.last() == 1 && caller.kept().is_some(),
+        Told::Kept => false,
+        Told::Wrong => false,
+        Told::Refused(_) => false,
+    }
+}
+
+#[test]
+fn callers(rt: HostRuntime) -> Result<(), Fail> {
+    let alloc = rt.alloc();
+    let (names, session) = relay(alloc)?;
+    let mut caller = Solo::new(Room::open(alloc, names, session), a());
+    let name = Name::read(b"m").expect(&rt, "a name");
+    assert!(rt; kept_after(&mut caller, Command::Forward(Forward::Mark { name })));
+    assert!(rt; caller.roles().count() == 3);
+    let answer = caller.call(Command::Undo(StepId::new(9)));
+    assert!(rt; matches!(answer, Answer::Refused(Refusal::NoStep)));
+    Ok(())
+}
+
+// ---- cells
+
+// A pause that counts.
+#[derive(Drop)]
+struct Once(u64);
+
+impl Pause for Once {
+    fn pause(&mut self) {
+        self.0 = 1;
+    }
+}
+
+// Whether a pass gets its answers: that a step isn't there, and that its journal is empty.
+fn passes_answer<R: Wait>(rt: &R, pass: Pass<'_>) -> bool {
+    let mut pass = pass;
+    let mut pause = Once(0);
+    let called = pass.call(rt, Command::Undo(StepId::new(9)));
+    let paused = pass.call_with(rt, Command::Undo(StepId::new(9)), &mut pause);
+    let tried = pass.try_call(Command::Undo(StepId::new(9)));
+    matches!(called, Answer::Refused(_))
+        && matches!(paused, Answer::Refused(_))
+        && pause.0 == 1
+        && tried.is_ok()
+        && pass.front() == 0
+        && pass.seen() == 0
+        && pass.role() == a()
+}
+
+// Whether the pass of the first role gets its answers.
+fn first_answers<R: Wait>(rt: &R, cell: &mut Cell) -> bool {
+    let Ok(mut all) = cell.passes() else {
+        return false;
+    };
+    all.truncate(1);
+    match all.pop() {
+        Some(pass) => passes_answer(rt, pass),
+        None => false,
+    }
+}
+
+#[test]
+fn passes(rt: HostRuntime) -> Result<(), Fail> {
+    let alloc = rt.alloc();
+    let (names, session) = relay(alloc)?;
+    let mut cell = Cell::open(alloc, names, session)?;
+    assert!(rt; first_answers(&rt, &mut cell));
+    assert!(rt; matches!(cell.passes(), Err(PassFault::Given)));
+    assert!(rt; cell.close().is_some());
+    Ok(())
+}
+
+// A pass is called as any caller, and leaves.
+fn leave<R: Wait>(rt: &R, pass: Pass<'_>) -> Leave {
+    let mut held = Held { rt, pass };
+    let _refused = held.call(Command::Undo(StepId::new(9)));
+    held.pass.leave()
+}
+
+// How long the journal was found where the room was out.
+fn found(busy: Busy) -> u64 {
+    busy.found
+}
+
+fn close_with(cell: Cell, leave: Leave) -> Option<Room>
+    requires { leave.cell ≡ cell.cell }
+{
+    cell.close_with(leave)
+}
+
+fn compare(first: &mut Pass<'_>, second: &mut Pass<'_>) -> Ordering
+    requires { second.old.cell ≡ first.old.cell }
+{
+    meet(first, second)
+}
+
+// ---- lines
+
+#[test]
+fn lines_read(rt: HostRuntime) -> Result<(), Fail> {
+    let alloc = rt.alloc();
+    let (roles, _) = relay(alloc)?;
+    assert!(rt; matches!(read_command(alloc, &roles, b"undo 3"), Ok(Command::Undo(_))));
+    assert!(rt;
+        matches!(
+            read_script_line(alloc, &roles, b"a fly"),
+            Err(LineFault::Bad)
+        )
+    );
+    assert!(rt; matches!(read_numbered(alloc, &roles, b"4 show"), Err(LineFault::Bad)));
+    let (session, name) = read_join(b"join 2 a")?;
+    assert!(rt; session == 2 && name.is_spelled(b"a"));
+    Ok(())
+}
+
+// The line of a command.
+fn line_of(alloc: Global, roles: &Roles, command: &Command) -> Result<Vec<u8>, AllocError>
+    requires { NamesRolesOf roles.now command.now }
+{
+    write_command(alloc, roles, command)
+}
+
+#[test]
+fn lines_written(rt: HostRuntime) -> Result<(), Fail> {
+    let alloc = rt.alloc();
+    let (roles, _) = relay(alloc)?;
+    let undo = line_of(alloc, &roles, &Command::Undo(StepId::new(3)))?;
+    assert!(rt; undo.as_slice() == b"undo 3".as_slice());
+    let refused = Answer::Refused(Refusal::Full);
+    let kept = write_kept(alloc, &refused)?;
+    assert!(rt; kept.as_slice() == b"refused full".as_slice());
+    let reply = write_answer(alloc, &Reply::Answer(refused))?;
+    assert!(rt; reply.as_slice() == b"refused full".as_slice());
+    Ok(())
+}
+
+#[test]
+fn codes(rt: HostRuntime) -> Result<(), Fail> {
+    assert!(rt; Reply::BadLine.code() == 14 && Reply::NoSession.code() == 15);
+    assert!(rt; Reply::NoRole.code() == 16 && Reply::Taken.code() == 17);
+    assert!(rt; Reply::Number.code() == 19);
+    let joined = read_answer(rt.alloc(), b"joined 1 a")?;
+    assert!(rt;
+        matches!(
+            joined,
+            Reply::Joined {
+                session: 1,
+                name: _
+            }
+        )
+    );
+    Ok(())
+}
+
+// ---- devices and streams
+
+#[test]
+fn devices(rt: HostRuntime) -> Result<(), Fail> {
+    let mut buf = [0u8; 4];
+    let mut source = OverRead::new(b"ab".as_slice());
+    assert!(rt; source.read(&mut buf) == Ok(2));
+    let mut sink = OverWrite::new(Vec::new(rt.alloc()));
+    assert!(rt; sink.write(b"ab") == Ok(2));
+    Ok(())
+}
+
+#[test]
+fn pieces_of_lines(rt: HostRuntime) -> Result<(), Fail> {
+    let mut lines = Lines::new(rt.alloc());
+    lines.feed(b"a\n\x80")?;
+    match lines.next_line()? {
+        Some(Line::Text(text)) => assert!(rt; text.as_slice() == b"a".as_slice()),
+        Some(Line::TooLong) => return Err("a text".into()),
+        Some(Line::NotAscii) => return Err("a text".into()),
+        None => return Err("a line".into()),
+    }
+    Ok(())
+}
+
+#[test]
+fn scripts(rt: HostRuntime) -> Result<(), Fail> {
+    let alloc = rt.alloc();
+    let (names, session) = relay(alloc)?;
+    let mut reader = Pieces::new(
+        vec![in alloc; Vec::from_slice(alloc, b"a send b 5\n")?]?,
+        None,
+    );
+    let mut writer = Short::new(alloc, 99)?;
+    match replay_session(alloc, &mut reader, &mut writer, names, session) {
+        Ok(room) => assert!(rt; room.entries() == 1),
+        Err(_) => return Err("a room".into()),
+    }
+    Ok(())
+}
+
+#[test]
+fn scripts_of_types(rt: HostRuntime) -> Result<(), Fail> {
+    let alloc = rt.alloc();
+    let (names, _) = relay(alloc)?;
+    let types = vec![in alloc; Local::End, Local::End, Local::End]?;
+    let mut reader = Pieces::new(vec![in alloc; Vec::from_slice(alloc, b"a mark m")?]?, None);
+    let mut writer = Short::new(alloc, 0)?;
+    let ran = replay(alloc, &mut reader, &mut writer, names, types);
+    assert!(rt; matches!(ran, Err(ReplayFault::WriteFault)));
+    Ok(())
+}
+
+#[test]
+fn conversations(rt: HostRuntime) -> Result<(), Fail> {
+    let alloc = rt.alloc();
+    let (names, session) = relay(alloc)?;
+    let mut caller = Solo::new(Room::open(alloc, names, session), a());
+    let mut reader = Pieces::new(
+        vec![in alloc; Vec::from_slice(alloc, b"1 send b 5\n")?]?,
+        None,
+    );
+    let mut writer = Short::new(alloc, 99)?;
+    let ending = converse(alloc, &mut caller, &mut reader, &mut writer);
+    assert!(rt; ending == Ending::Closed);
+    Ok(())
+}
+
+// ---- servers
+
+// Two sessions of the relay.
+fn two(alloc: Global) -> Result<Hub, Fail>
+    ensures { IfOk result (λ h. h.given ≡ false) }
+{
+    let (names, first) = relay(alloc)?;
+    let (_, second) = relay(alloc)?;
+    let sessions = vec![in alloc; first, second]?;
+    Ok(Hub::of(alloc, &names, sessions)?)
+}
+
+#[test]
+fn desks(rt: HostRuntime) -> Result<(), Fail> {
+    let alloc = rt.alloc();
+    let mut hub = two(alloc)?;
+    let name = Name::read(b"z").expect(&rt, "a name");
+    let desk = hub.desk(alloc)?;
+    assert!(rt; matches!(desk.take(&rt, 3, &name), Err(JoinFault::NoSession)));
+    assert!(rt; matches!(desk.take(&rt, 2, &name), Err(JoinFault::NoRole)));
+    Ok(())
+}
+
+#[test]
+fn hubs(rt: HostRuntime) -> Result<(), Fail> {
+    let alloc = rt.alloc();
+    let types = [Local::End, Local::End, Local::End];
+    let (names, _) = relay(alloc)?;
+    let hub = Hub::open(alloc, &names, &types, 1)?;
+    assert!(rt; hub.close(alloc)?.len() == 1);
+    Ok(())
+}
+
+// The pass goes back.
+fn give<'a, R: Wait>(rt: &R, desk: &Desk<'a>, session: u64, pass: Pass<'a>)
+    requires session { IsSession desk.now.first (length desk.now.cells) session }
+    requires pass { IsOfSession desk.now session pass }
+{
+    desk.give(rt, session, pass);
+}
+
+// A gate that all pass.
+#[derive(Drop)]
+struct Open;
+
+impl Gate for Open {
+    fn before(&self, _connection: u64, _line: u64) {}
+}
+
+// How many connections ended and were lost, of two that were accepted in one way and the other.
+fn served<R: Threads + Wait + Clock + Sync + 'static>(
+    rt: &R,
+    alloc: Global,
+    listener: &TcpListener,
+    desk: &Desk<'_>,
+) -> Result<u64, ServeFault> {
+    let Served { ended, lost } = serve(rt, alloc, listener, desk, 1)?;
+    let gated = serve_with(rt, alloc, listener, desk, 1, &Open)?;
+    Ok(u64::wrapping_add(u64::wrapping_add(ended, lost), gated.ended))
+}
