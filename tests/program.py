@@ -1,6 +1,7 @@
 """program: the program that ./mps runs, as the tests call it."""
 import os
 import pathlib
+import pty
 import re
 import subprocess
 import sys
@@ -50,12 +51,13 @@ class Program:
         return reference.Outcome(ran.stdout or b"", fault, ran.returncode)
 
     def order(self, order, *texts, **more):
-        """What the program comes to with this order, over files with these texts."""
+        """What the program comes to with this order, over files with these texts; of two scripts it tells how many lines it
+        refused."""
         paths = [os.path.join(self.room.name, str(place)) for place in range(len(texts))]
         for path, text in zip(paths, texts):
             with open(path, "wb") as file:
                 file.write(text)
-        return self.run([order, *paths], **more)
+        return self.run([*(["-v"] if order == "same" else []), order, *paths], **more)
 
 
 def lost(words, stream, **how):
@@ -83,6 +85,22 @@ def unwritten_by(tool):
     """What comes of that where a tool has something to write."""
     told = f"{tool}: standard output can't be written: "
     return [(f"{told}No space left on device\n", 2), (f"{told}Bad file descriptor\n", 2), ("", 141)]
+
+
+def at_terminal(words, **how):
+    """What a command prints, what it tells a terminal, and its status."""
+    mine, other = pty.openpty()
+    streams = {"stdin": subprocess.DEVNULL, "stdout": subprocess.PIPE, "stderr": other}
+    with subprocess.Popen([str(word) for word in words], **streams, **how) as ran:
+        os.close(other)
+        out, told = ran.stdout.read().decode(), b""
+        try:
+            while piece := os.read(mine, 4096):
+                told += piece
+        except OSError:  # as the other end is closed
+            pass
+    os.close(mine)
+    return out, told.decode().replace("\r\n", "\n"), ran.returncode
 
 
 def keep(name, order, texts):

@@ -322,7 +322,8 @@ def lines_of(script):
 # --- The program -----------------------------------------------------------------------------------------------------
 
 class Outcome(NamedTuple):
-    """What the program comes to: its standard output, its fault line without the LF, or nothing, and its status."""
+    """What the program comes to: its standard output, its fault line without the LF, or nothing, and its status. Where the
+    status is no fault's, the line is what is told with -v."""
     out: bytes
     fault: str
     status: int
@@ -375,11 +376,6 @@ def same(protocol, first, second, kind=Room):
     return Outcome(b"same\n", told, 0) if found[0].view == found[1].view else Outcome(b"different\n", told, 1)
 
 
-def unopened(file, error):
-    """What is said of a file that can't be opened: its name, and the system's reason."""
-    return f"refused file {file}\n{error.strerror} (os error {error.errno})"
-
-
 def outcome_of(order, protocol, *scripts):
     """What an order over files comes to: the protocol is read and checked before a script is opened, and all scripts are
     opened before one is read. `-` is what the standard input has left."""
@@ -395,16 +391,17 @@ def outcome_of(order, protocol, *scripts):
     except Fault as fault:
         return Outcome(b"", fault.line, fault.status)
     except OSError as error:  # which has the name of a file that can't be opened
-        return Outcome(b"", "refused read", 4) if error.filename is None else Outcome(b"", unopened(error.filename, error), 2)
+        return Outcome(b"", "refused read", 4) if error.filename is None else Outcome(b"", f"refused file {error.filename}", 2)
     return {"check": check, "run": run, "same": same}[order](text, *texts)
 
 
 def main():
     if [len(sys.argv), sys.argv[1:2]] not in ([3, ["check"]], [4, ["run"]], [5, ["same"]]):
+        print("usage: reference.py check FILE | run FILE SCRIPT | same FILE SCRIPT SCRIPT", file=sys.stderr)
         sys.exit(2)
     found = outcome_of(*sys.argv[1:])
     sys.stdout.buffer.write(found.out)
-    if found.fault:
+    if found.fault and found.status > 1:
         print(found.fault, file=sys.stderr)
     sys.exit(found.status)
 

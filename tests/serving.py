@@ -47,7 +47,7 @@ class Server:
 
     def __init__(self, path, sessions, connections=None, wrap=(), protocol=RELAY, port=0, more=()):
         words = ["serve", str(protocol), "--port", str(port), "--sessions", str(sessions), *more]
-        words += [] if connections is None else ["--connections", str(connections)]
+        words += ["--endless"] if connections is None else ["--connections", str(connections)]
         self.process = Started([*wrap, path, *words], stdin=subprocess.DEVNULL, stdout=subprocess.PIPE, stderr=subprocess.PIPE)
         line = self.process.stdout.readline().split()
         self.port = int(line[1]) if line[:1] == ["listening"] else 0
@@ -88,9 +88,9 @@ class Server:
         expect("the end of a server", (*found, self.process.returncode), (wanted, told, status))
 
 
-def printed(words, text=""):
+def printed(words, text="", **how):
     """What a process prints that is given this text."""
-    with Started(words, stdin=subprocess.PIPE, stdout=subprocess.PIPE) as process:
+    with Started(words, stdin=subprocess.PIPE, stdout=subprocess.PIPE, **how) as process:
         return process.communicate(text)[0]
 
 

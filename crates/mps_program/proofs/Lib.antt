@@ -3,3 +3,5 @@ pub mod Comparing
 pub mod Lines
 pub mod Bounds
 pub mod Telling
+pub mod Hearing
+pub mod Passing

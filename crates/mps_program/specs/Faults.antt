@@ -1,5 +1,5 @@
 -- How faults are told.
-use Rattle.std.specs.Prelude.{◌+◌, ◌⊎◌, ⊤, ◌≡◌, ℕ, List, Option, Result, Ok, Err, codes, ◌++◌}
+use Rattle.std.specs.Prelude.{◌+◌, ◌⊎◌, ⊤, ◌≡◌, ℕ, List, Option, None, Result, Ok, Err, codes, ◌++◌}
 use Rattle.std.specs.String.{string_bytes}
 use Rattle.mps_base.specs.Numbers.{IsNumberText}
 use Rattle.mps_global.specs.declared.faults.GlobalFault.{GlobalFault}
@@ -61,7 +61,7 @@ IsFaultLine line (Protocol fault) = line ≡ codes "refused protocol " ++ protoc
 IsFaultLine line (Projection role choice) =
     (number : List ℕ) × (line ≡ codes "refused projection " ++ role ++ codes " " ++ number) × IsNumberText number choice
 IsFaultLine line Open = line ≡ codes "refused open"
-IsFaultLine line Read = line ≡ codes "refused read"
+IsFaultLine line (Read why) = line ≡ codes "refused read"
 IsFaultLine line Write = line ≡ codes "refused write"
 IsFaultLine line Turns = line ≡ codes "refused turns"
 IsFaultLine line (Bind why) = line ≡ codes "refused bind"
@@ -85,7 +85,7 @@ status_of (Text at kind) = 3
 status_of (Protocol fault) = 3
 status_of (Projection role choice) = 3
 status_of Open = 3
-status_of Read = 4
+status_of (Read why) = 4
 status_of Write = 4
 status_of Turns = 4
 status_of (Bind why) = 2
@@ -96,6 +96,13 @@ status_of (JournalLine session at) = 3
 status_of JournalProtocol = 3
 status_of (JournalLost session) = 4
 status_of Memory = 4
+
+-- the same fault, but for what the system says of it
+abbrev pub IsSameButForReasons : (fault told : ToolFault) → Type 0
+IsSameButForReasons (File name why) told = (other : _) × (told ≡ File name other)
+IsSameButForReasons (Read why) told = (other : _) × (told ≡ Read other)
+IsSameButForReasons (Bind why) told = (other : _) × (told ≡ Bind other)
+IsSameButForReasons fault told = told ≡ fault
 
 -- a fault of use, as the program tells it
 abbrev pub of_use : UseFault → ToolFault
@@ -110,20 +117,20 @@ of_text at kind = Text at kind
 -- why a script was not run to its end, as the program tells it
 abbrev pub of_script : ReplayFault → ToolFault
 of_script (NotOpened fault) = Open
-of_script ReadFault = Read
+of_script ReadFault = Read None
 of_script WriteFault = Write
 of_script TooManyReads = Turns
 of_script OutOfMemory = Memory
 
 -- how a text may fail to be read: a call more failed, or memory ran out and none more failed
 abbrev pub IsReadFault : ℕ → ℕ → ToolFault → Type 0
-IsReadFault before after Read = after ≡ before + 1
+IsReadFault before after (Read why) = after ≡ before + 1
 IsReadFault before after Memory = after ≡ before
 IsReadFault before after fault = ⊥
 
 -- how many reads failed where this is the fault
 abbrev pub failed_reads : ToolFault → ℕ
-failed_reads Read = 1
+failed_reads (Read why) = 1
 failed_reads fault = 0
 
 -- how many writes failed where this is the fault
@@ -149,7 +156,7 @@ IsFileFault name fault = ⊥
 -- how the run of a script in an open session may break off: a read or a write fails, it is read from too often, or
 -- memory runs out
 abbrev pub IsBreak : ToolFault → Type 0
-IsBreak Read = ⊤
+IsBreak (Read why) = ⊤
 IsBreak Write = ⊤
 IsBreak Turns = ⊤
 IsBreak Memory = ⊤

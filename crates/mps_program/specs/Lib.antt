@@ -7,4 +7,5 @@ pub mod Files
 pub mod Journals
 pub mod Served
 pub mod Streams
+pub mod Watched
 pub mod Private

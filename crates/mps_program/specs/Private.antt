@@ -1,3 +1,4 @@
 -- What no contract of a public function uses.
 pub mod Served
 pub mod Compared
+pub mod Heard

@@ -25,9 +25,13 @@ pub record HasLoaded (given left : Option (List ℕ)) (roles : List (List ℕ)) 
   pub read : IsProtocolText text roles tree
   pub faultless : fault_of roles tree ≡ None
 
+-- some source gave this protocol
+abbrev pub WasLoaded : (roles : List (List ℕ)) → GlobalType → Type 0
+WasLoaded roles tree = (given : Option (List ℕ)) × (left : Option (List ℕ)) × HasLoaded given left roles tree
+
 -- why no protocol without faults was had: the text gives none, a read failed, or memory ran out
 abbrev pub CantLoad : (given left : Option (List ℕ)) → ToolFault → Type 0
-CantLoad given left Read = ⊤
+CantLoad given left (Read why) = ⊤
 CantLoad given left Memory = ⊤
 CantLoad given left fault = (text : List ℕ) × HasGiven given left text × GivesNoProtocol text fault
 

@@ -12,7 +12,7 @@ ghost use Rattle.mps_program.specs.Files.{HasReadAtMost, most_read};
 ghost use Rattle.mps_program.specs.Streams.{CantShow, HasShown};
 
 use crate::faults::ToolFault;
-use crate::files::{open_file, tell};
+use crate::files::{open_file, say_why, tell};
 use crate::load::{load_protocol, types_of};
 use mps_base::{Role, Roles};
 use mps_dev::{OverWrite, Sink, Source};
@@ -116,5 +116,6 @@ pub fn check_file<'a, R: Files + AllocGlobal + Print>(
 {
     let mut reader = open_file(rt, file)?;
     let mut writer = OverWrite::new(io::writer(rt));
-    write_types(rt.alloc(), &mut reader, &mut writer)
+    let written = write_types(rt.alloc(), &mut reader, &mut writer);
+    say_why(written, reader)
 }

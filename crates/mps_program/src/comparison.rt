@@ -8,14 +8,14 @@ ghost use Rattle.mps_program.specs.Faults.{IsCompareFault, IsFileFault, IsScript
 ghost use Rattle.mps_wire.specs.Runs.{max_reads};
 
 use crate::faults::ToolFault;
-use crate::files::{Script, open_file, open_script, tell};
-use crate::load::{load_protocol, open_session};
+use crate::files::{OpenScript, open_script, say_why, tell};
+use crate::load::{load_file, open_session};
 use crate::tally::Tally;
 use mps_base::Roles;
-use mps_dev::{OverRead, OverWrite, Source};
+use mps_dev::{OverWrite, Source};
 use mps_room::Room;
 use mps_session::{Session, same};
-use mps_wire::script::run_script;
+use mps_wire::script::replay_session;
 use std::alloc::{AllocError, Global};
 use std::io;
 use std::rt::Files;
@@ -46,7 +46,7 @@ fn run_on_copy<'a, R: Source>(
     ensures reads { R.calls reader.new ≤ R.calls reader.old + max_reads }
 {
     let names = roles.copy(alloc)?;
-    Ok(run_script(alloc, reader, tally, names, session)?)
+    Ok(replay_session(alloc, reader, tally, names, session)?)
 }
 
 // The line and the status that say whether two sessions are the same.
@@ -128,8 +128,8 @@ fn open_both<'a, R: Files + Input>(
     other: &'a str,
 ) -> Result<
     (
-        OverRead<Script<R::File, R::Reader>>,
-        OverRead<Script<R::File, R::Reader>>,
+        OpenScript<R::File, R::Reader>,
+        OpenScript<R::File, R::Reader>,
     ),
     ToolFault<'a>,
 >
@@ -143,7 +143,8 @@ fn open_both<'a, R: Files + Input>(
     Ok((first, second))
 }
 
-// Compares the scripts in two files, and prints what is said of them. Gives the status.
+// Compares the scripts in two files, and prints what is said of them. Gives the status. Where more is to be told,
+// standard error is told how many lines were refused, if any were.
 fn compare_scripts<'a, R: Files + Input + AllocGlobal + Print + Eprint>(
     rt: &R,
     roles: &Roles,
@@ -151,6 +152,7 @@ fn compare_scripts<'a, R: Files + Input + AllocGlobal + Print + Eprint>(
     second: Session,
     script: &'a str,
     other: &'a str,
+    verbose: bool,
 ) -> Result<u8, ToolFault<'a>>
     requires types { second.types ≡ first.types }
     requires named { length roles.now ≡ length first.types }
@@ -164,7 +166,7 @@ fn compare_scripts<'a, R: Files + Input + AllocGlobal + Print + Eprint>(
         first: Tally::new(),
         second: Tally::new(),
     };
-    let (line, status) = verdict_of(
+    let verdict = verdict_of(
         rt.alloc(),
         roles,
         first,
@@ -172,8 +174,9 @@ fn compare_scripts<'a, R: Files + Input + AllocGlobal + Print + Eprint>(
         &mut reader,
         &mut second_reader,
         &mut tallies,
-    )?;
-    if tallies.first.refused() > 0 || tallies.second.refused() > 0 {
+    );
+    let (line, status) = say_why(say_why(verdict, reader), second_reader)?;
+    if verbose && (tallies.first.refused() > 0 || tallies.second.refused() > 0) {
         tell_refused(rt, "first", &tallies.first);
         tell_refused(rt, "second", &tallies.second);
     }
@@ -182,7 +185,8 @@ fn compare_scripts<'a, R: Files + Input + AllocGlobal + Print + Eprint>(
 }
 
 /// Runs the scripts in two files, each on a new session of the protocol in the file, and prints `same` or `different`.
-/// Gives the status, 0 or 1. Where lines were refused, standard error is told how many of each script.
+/// Gives the status, 0 or 1. Where more is to be told (`verbose`) and lines were refused, standard error is told how
+/// many of each script.
 ///
 /// The protocol is read and checked before a script is opened, and both are opened before the first
 /// is read.
@@ -191,12 +195,13 @@ pub fn compare_files<'a, R: Files + Input + AllocGlobal + Print + Eprint>(
     file: &'a str,
     script: &'a str,
     other: &'a str,
+    verbose: bool,
 ) -> Result<u8, ToolFault<'a>>
     ensures status { IfOk result (λ status. status ≤ 1) }
     ensures fault { IfErr result (IsCompareFault file.now script.now other.now) }
 {
-    let protocol = load_protocol(rt.alloc(), &mut open_file(rt, file)?)?;
+    let protocol = load_file(rt, file)?;
     let (roles, first) = open_session(rt.alloc(), &protocol)?;
     let (_, second) = open_session(rt.alloc(), &protocol)?;
-    compare_scripts(rt, &roles, first, second, script, other)
+    compare_scripts(rt, &roles, first, second, script, other, verbose)
 }

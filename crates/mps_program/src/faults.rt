@@ -1,7 +1,7 @@
 //! What the program says when it can't go on.
 ghost use Rattle.std.specs.Prelude.{◌≡◌, OnOk, IfOk};
 ghost use Rattle.mps_base.specs.Appends.{AppendsSuch};
-ghost use Rattle.mps_program.specs.Faults.{IsFaultLine, of_script, of_text, of_use, protocol_word, status_of};
+ghost use Rattle.mps_program.specs.Faults.{IsFaultLine, IsSameButForReasons, of_script, of_text, of_use, protocol_word, status_of};
 ghost use Rattle.mps_program.specs.Faults.{text_word};
 ghost use Rattle.mps_program.specs.declared.faults.ToolFault.TheVariants.{Memory as OutOfMemory};
 ghost use Rattle.mps_program.specs.declared.faults.ToolFault.TheVariants.{Protocol as OfProtocol};
@@ -50,9 +50,11 @@ pub enum ToolFault<'a> {
     /// No session can be opened with the types.
     #[error("refused open")]
     Open,
-    /// A file can't be read.
+    /// A file can't be read; why, as the system says it.
     #[error("refused read")]
-    Read,
+    Read {
+        why: Option<io::Error>,
+    },
     /// The answers can't be written.
     #[error("refused write")]
     Write,
@@ -148,7 +150,7 @@ impl From<ReplayFault> for ToolFault<'_> {
     fn from(fault: ReplayFault) -> Self {
         match fault {
             ReplayFault::Open(_) => ToolFault::Open,
-            ReplayFault::ReadFault => ToolFault::Read,
+            ReplayFault::ReadFault => ToolFault::Read { why: None },
             ReplayFault::WriteFault => ToolFault::Write,
             ReplayFault::Turns => ToolFault::Turns,
             ReplayFault::Memory => ToolFault::Memory,
@@ -234,7 +236,7 @@ fn write_line(fault: &ToolFault<'_>, out: &mut Vec<u8>) -> Result<(), AllocError
             write_number(*choice as u64, out)
         }
         ToolFault::Open => out.extend_from_slice(b"refused open"),
-        ToolFault::Read => out.extend_from_slice(b"refused read"),
+        ToolFault::Read { .. } => out.extend_from_slice(b"refused read"),
         ToolFault::Write => out.extend_from_slice(b"refused write"),
         ToolFault::Turns => out.extend_from_slice(b"refused turns"),
         ToolFault::Bind { .. } => out.extend_from_slice(b"refused bind"),
@@ -262,8 +264,31 @@ fn write_line(fault: &ToolFault<'_>, out: &mut Vec<u8>) -> Result<(), AllocError
 pub(crate) fn reason_of<'f>(fault: &'f ToolFault<'_>) -> Option<&'f io::Error> {
     match fault {
         ToolFault::File { why, .. } => why.as_ref(),
+        ToolFault::Read { why } => why.as_ref(),
         ToolFault::Bind { why } => why.as_ref(),
         _ => None,
+    }
+}
+
+/// The fault without what the system says of it.
+pub(crate) fn without_reason<'a>(fault: ToolFault<'a>) -> ToolFault<'a>
+    ensures { IsSameButForReasons fault.entry result }
+{
+    match fault {
+        ToolFault::File { name, .. } => ToolFault::File { name, why: None },
+        ToolFault::Read { .. } => ToolFault::Read { why: None },
+        ToolFault::Bind { .. } => ToolFault::Bind { why: None },
+        fault => fault,
+    }
+}
+
+/// The fault, with what the system said where a read failed, if it said something.
+pub(crate) fn with_reason<'a>(fault: ToolFault<'a>, why: Option<io::Error>) -> ToolFault<'a>
+    ensures { IsSameButForReasons fault.entry result }
+{
+    match (fault, why) {
+        (ToolFault::Read { .. }, Some(why)) => ToolFault::Read { why: Some(why) },
+        (fault, _) => fault,
     }
 }
 
@@ -283,7 +308,7 @@ pub fn status(fault: &ToolFault<'_>) -> u8
         | ToolFault::Open
         | ToolFault::JournalLine { .. }
         | ToolFault::JournalProtocol => 3,
-        ToolFault::Read
+        ToolFault::Read { .. }
         | ToolFault::Write
         | ToolFault::Turns
         | ToolFault::Accept

@@ -1,13 +1,13 @@
 //! The files: opening one, reading a text to its end, and writing one.
-ghost use Rattle.std.specs.Prelude.{◌≡◌, ◌+◌, ◌<◌, ◌≤◌, ◌^◌, ◌++◌, ℕ, List, length, IfOk, IfErr, OnErr, OnOk};
+ghost use Rattle.std.specs.Prelude.{◌≡◌, ◌+◌, ◌<◌, ◌≤◌, ◌^◌, ◌++◌, ℕ, List, length, Ok, Err, IfOk, IfErr, OnErr, OnOk};
 ghost use Rattle.mps_dev.specs.Standard.{calls_of};
 ghost use Rattle.std.specs.Io.KnownBytes.{Appends, Consumes, IsAtEnd};
-ghost use Rattle.mps_program.specs.Faults.{IsFileFault, IsReadFault, after_writes};
+ghost use Rattle.mps_program.specs.Faults.{IsFileFault, IsReadFault, IsSameButForReasons, after_writes};
 ghost use Rattle.mps_program.specs.Files.{HasReadAtMost, longest, most_read};
 ghost use Rattle.mps_program.specs.declared.faults.ToolFault.TheVariants.{Write as NotWritten};
 ghost use Rattle.mps_wire.specs.Sending.{TookFront};
 
-use crate::faults::ToolFault;
+use crate::faults::{ToolFault, with_reason};
 use mps_dev::{OverRead, Sink, Source};
 use mps_text::MAX_TEXT_BYTES;
 use mps_wire::sending::send_all;
@@ -69,26 +69,76 @@ impl<F: Read, I: Read> Read for Script<F, I> {
     }
 }
 
+/// A reader that keeps what the system said of its newest failed read.
+#[derive(Drop)]
+pub struct Noted<R> {
+    reader: R,
+    why: Option<io::Error>,
+}
+
+impl<R> Noted<R> {
+    fn new(reader: R) -> Noted<R> {
+        Noted { reader, why: None }
+    }
+
+    // Keeps what the system said, and gives its kind.
+    fn note(&mut self, error: io::Error) -> io::Error {
+        let kind = error.kind();
+        self.why = Some(error);
+        io::Error::from(kind)
+    }
+}
+
+impl<R: Read> Read for Noted<R> {
+    fn read(&mut self, buf: &mut [u8]) -> io::Result<usize> {
+        match self.reader.read(buf) {
+            Ok(count) => Ok(count),
+            Err(error) => Err(self.note(error)),
+        }
+    }
+}
+
+/// What was done with the reader, and where a read failed, what the system said of it.
+pub(crate) fn say_why<'a, T, R: Drop>(
+    done: Result<T, ToolFault<'a>>,
+    reader: OverRead<Noted<R>>,
+) -> Result<T, ToolFault<'a>>
+    ensures ok { IfOk result (λ x. done.entry ≡ Ok x) }
+    ensures err { IfErr result (λ told. (fault : _) × (done.entry ≡ Err fault) × IsSameButForReasons fault told) }
+{
+    let Noted { reader: _, why } = reader.into_inner();
+    match done {
+        Ok(value) => Ok(value),
+        Err(fault) => Err(with_reason(fault, why)),
+    }
+}
+
+/// A script that is open.
+pub(crate) type OpenScript<F, I> = OverRead<Noted<Script<F, I>>>;
+
 /// Opens the script, of which nothing was read yet: the file of that name, or the standard input by `-`.
 pub(crate) fn open_script<'a, R: Files + Input>(
     rt: &R,
     name: &'a str,
-) -> Result<OverRead<Script<R::File, R::Reader>>, ToolFault<'a>>
+) -> Result<OpenScript<R::File, R::Reader>, ToolFault<'a>>
     ensures fresh { IfOk result (λ reader. calls_of reader ≡ 0) }
     ensures fault { IfErr result (IsFileFault name.now) }
 {
     if name == STANDARD_INPUT {
-        return Ok(OverRead::new(Script::Input(rt.reader())));
+        return Ok(OverRead::new(Noted::new(Script::Input(rt.reader()))));
     }
-    Ok(OverRead::new(Script::File(opened(rt, name)?)))
+    Ok(OverRead::new(Noted::new(Script::File(opened(rt, name)?))))
 }
 
 /// Opens the file, of which nothing was read yet.
-pub fn open_file<'a, R: Files>(rt: &R, name: &'a str) -> Result<OverRead<R::File>, ToolFault<'a>>
+pub fn open_file<'a, R: Files>(
+    rt: &R,
+    name: &'a str,
+) -> Result<OverRead<Noted<R::File>>, ToolFault<'a>>
     ensures fresh { IfOk result (λ reader. calls_of reader ≡ 0) }
     ensures fault { IfErr result (IsFileFault name.now) }
 {
-    Ok(OverRead::new(opened(rt, name)?))
+    Ok(OverRead::new(Noted::new(opened(rt, name)?)))
 }
 
 /// Reads a text to its end, or one byte more of it than a protocol may have.
@@ -136,7 +186,7 @@ fn read_more<'a, R: Source>(
         (λ n. n ≡ 0 → 0 < length block.old → IsAtEnd (R.remaining reader.new)) }
 {
     let Ok(count) = reader.read(block) else {
-        return Err(ToolFault::Read);
+        return Err(ToolFault::Read { why: None });
     };
     text.extend_from_slice(&block[..count])?;
     Ok(count)

@@ -10,12 +10,12 @@ ghost use Rattle.mps_local.specs.Outcome.{AreNotAll, AreProjections};
 ghost use Rattle.mps_machine.specs.Machine.{initial};
 ghost use Rattle.mps_open.specs.Texts.{IsProtocolText};
 ghost use Rattle.mps_program.specs.Check.{GivesNoProtocol, GivesNoTypes, HasNoProjection};
-ghost use Rattle.mps_program.specs.Faults.{after_reads};
+ghost use Rattle.mps_program.specs.Faults.{IsLoadFault, after_reads};
 ghost use Rattle.mps_program.specs.Files.{HasReadAtMost, most_read};
-ghost use Rattle.mps_program.specs.Streams.{CantLoad, HasLoaded};
+ghost use Rattle.mps_program.specs.Streams.{CantLoad, HasLoaded, WasLoaded};
 
 use crate::faults::ToolFault;
-use crate::files::read_text;
+use crate::files::{open_file, read_text, say_why};
 use mps_base::Roles;
 use mps_dev::Source;
 use mps_global::{Protocol, check};
@@ -24,6 +24,7 @@ use mps_open::roles_of;
 use mps_session::{OpenFault, Session};
 use mps_text::read_protocol;
 use std::alloc::Global;
+use std::rt::Files;
 
 // The protocol without faults that the text spells.
 fn protocol_of<'a>(alloc: Global, text: &[u8]) -> Result<Protocol, ToolFault<'a>>
@@ -52,6 +53,19 @@ pub fn load_protocol<'a, R: Source>(
 {
     let text = read_text(alloc, reader)?;
     protocol_of(alloc, text.as_slice())
+}
+
+/// Reads the protocol in the file, and checks it.
+pub(crate) fn load_file<'a, R: Files + AllocGlobal>(
+    rt: &R,
+    file: &'a str,
+) -> Result<Protocol, ToolFault<'a>>
+    ensures read { IfOk result (λ p. WasLoaded p.roles.items (global_type p.body)) }
+    ensures fault { IfErr result (IsLoadFault file.now) }
+{
+    let mut reader = open_file(rt, file)?;
+    let loaded = load_protocol(rt.alloc(), &mut reader);
+    say_why(loaded, reader)
 }
 
 // Why the protocol gives no types, told by the name of the role.

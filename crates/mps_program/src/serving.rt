@@ -12,9 +12,9 @@ ghost use Rattle.mps_program.specs.Served.{IsSessionLine, IsTellFault};
 ghost use Rattle.mps_program.specs.Private.Served.{IsHubFault, IsNewOf, TellsPort, TookOne, of_serving};
 
 use crate::faults::ToolFault;
-use crate::files::{open_file, tell};
+use crate::files::tell;
 use crate::journals::{FileKeeper, Recording, record_sessions};
-use crate::load::{load_protocol, open_session};
+use crate::load::{load_file, open_session};
 use mps_base::write_number;
 use mps_dev::{OverWrite, Sink};
 use mps_global::Protocol;
@@ -174,9 +174,10 @@ fn unserved<'a>(fault: ServeFault) -> ToolFault<'a>
     }
 }
 
-// Tells on standard error how many connections were closed since no thread could be started for them, if any were.
-fn tell_lost<R: Eprint>(rt: &R, lost: u64) {
-    if lost > 0 {
+// Where more is to be told, tells on standard error how many connections were closed since no thread could be started
+// for them, if any were.
+fn tell_lost<R: Eprint>(rt: &R, lost: u64, verbose: bool) {
+    if verbose && lost > 0 {
         let _told = eprintln!(rt; "lost {lost}");
     }
 }
@@ -189,6 +190,7 @@ fn serve_hub<'a, R, W: Sink>(
     port: u16,
     limits: Limits,
     recording: Option<Recording<'a, '_>>,
+    verbose: bool,
 ) -> Result<(), ToolFault<'a>>
 where
     R: Files<File = File>
@@ -221,7 +223,7 @@ where
     tell_port(alloc, writer, found)?;
     match serve_recorded(rt, alloc, &listener, &desk, &Unguarded, &keepers, limits) {
         Ok(served) => {
-            tell_lost(rt, served.lost);
+            tell_lost(rt, served.lost, verbose);
             Ok(())
         }
         Err(fault) => Err(unserved(fault)),
@@ -229,8 +231,8 @@ where
 }
 
 /// Restores the hub's sessions where they are recorded, tells the port, serves them to connections, and then tells how
-/// many entries the journal of each session has. On standard error it tells how many connections were lost, if any
-/// were.
+/// many entries the journal of each session has. Where more is to be told (`verbose`), it tells on standard error how
+/// many connections were lost, if any were.
 ///
 /// After a fault nothing more is told: the lines of sessions stop before the first that is lost, which the fault names.
 pub fn serve_to<'a, R, W: Sink>(
@@ -240,6 +242,7 @@ pub fn serve_to<'a, R, W: Sink>(
     port: u16,
     limits: Limits,
     recording: Option<Recording<'a, '_>>,
+    verbose: bool,
 ) -> Result<(), ToolFault<'a>>
 where
     R: Files<File = File>
@@ -264,7 +267,7 @@ where
 {
     let first = hub.first();
     let mut hub = hub;
-    serve_hub(rt, writer, &mut hub, port, limits, recording)?;
+    serve_hub(rt, writer, &mut hub, port, limits, recording, verbose)?;
     let rooms = hub.close(rt.alloc())?;
     tell_sessions(rt.alloc(), writer, first, rooms.as_slice())
 }
@@ -308,7 +311,7 @@ pub fn hub_of<'a>(
 {
     let made = sessions_of(alloc, protocol, sessions)?;
     let roles = roles_of(alloc, protocol)?;
-    Ok(Hub::of(alloc, &roles, first, made)?)
+    Ok(Hub::of_numbered(alloc, &roles, first, made)?)
 }
 
 /// How a server runs: its port, the number of its first session, how many sessions it has, its limits, and where the
@@ -339,7 +342,12 @@ fn recording_of<'a, 'p>(
 ///
 /// The protocol is read and checked, the sessions are opened, and where they are recorded they are restored, before the
 /// port is bound.
-pub fn serve_file<'a, R>(rt: &R, file: &'a str, service: Service<'a>) -> Result<(), ToolFault<'a>>
+pub fn serve_file<'a, R>(
+    rt: &R,
+    file: &'a str,
+    service: Service<'a>,
+    verbose: bool,
+) -> Result<(), ToolFault<'a>>
 where
     R: Files<File = File>
         + AllocGlobal
@@ -357,7 +365,7 @@ where
         service.entry.first service.entry.sessions) }
 {
     let alloc = rt.alloc();
-    let protocol = load_protocol(alloc, &mut open_file(rt, file)?)?;
+    let protocol = load_file(rt, file)?;
     let hub = hub_of(alloc, &protocol, service.first, service.sessions)?;
     // what a journal has to be of, where there is one
     let written = match &service.journal {
@@ -373,5 +381,6 @@ where
         service.port,
         service.limits,
         recording,
+        verbose,
     )
 }

@@ -1,6 +1,12 @@
 //! What is heard of the answers to a script.
-ghost use Rattle.std.specs.Prelude.{◌≡◌, ◌+◌, ◌<◌, ◌≤◌, None, length};
-ghost use Rattle.mps_program.specs.Heard.{inner_of, late_of};
+ghost use Rattle.std.specs.Prelude.{◌≡◌, ◌+◌, ◌-◌, ◌<◌, ◌≤◌, ◌%◌, ◌^◌, ◌++◌, ◌↔◌, ℕ, IsTrue, List, [], None, length, take};
+ghost use Rattle.std.specs.Io.{WritesAtMost};
+ghost use Rattle.std.specs.Io.KnownBytes.{WriteAppends};
+ghost use Rattle.mps_dev.specs.Calls.{failures_after, TakesSome};
+ghost use Rattle.mps_lines.specs.Cuts.{cut};
+ghost use Rattle.mps_lines.specs.Lines.{HasNoBreak};
+ghost use Rattle.mps_program.specs.Heard.{HasHeard, HasPassed, begun, first_refusal, inner_of, late_after, late_of, refusals, taken_by, wrapped};
+ghost use Rattle.mps_program.specs.Private.Heard.{IsHearing};
 
 use mps_dev::{Failed, Sink};
 use mps_lines::line_end;
@@ -16,7 +22,9 @@ pub struct Tally {
 
 impl Tally {
     /// Nothing was heard yet.
-    pub fn new() -> Tally {
+    pub fn new() -> Tally
+        ensures { HasHeard result [] }
+    {
         Tally {
             lines: 0,
             refused: 0,
@@ -25,17 +33,23 @@ impl Tally {
     }
 
     /// How many answers have ended.
-    pub fn lines(&self) -> u64 {
+    pub fn lines(&self) -> u64
+        ensures { (heard : List ℕ) → HasHeard self.now heard → result ≡ length (cut heard).lines % 2 ^ 64 }
+    {
         self.lines
     }
 
     /// How many answers, one that has begun included, are refusals.
-    pub fn refused(&self) -> u64 {
+    pub fn refused(&self) -> u64
+        ensures { (heard : List ℕ) → HasHeard self.now heard → result ≡ refusals (begun heard) % 2 ^ 64 }
+    {
         self.refused
     }
 
     // Whether the last answer that was heard has ended.
-    fn has_ended(&self) -> bool {
+    fn has_ended(&self) -> bool
+        ensures { (heard : List ℕ) → HasHeard self.now heard → IsTrue result ↔ (cut heard).rest ≡ [] }
+    {
         !self.within
     }
 
@@ -43,7 +57,8 @@ impl Tally {
     // with an r.
     fn hear_line<'b>(&mut self, bytes: &'b [u8]) -> &'b [u8]
         requires { 0 < length bytes.now }
-        ensures { length result.now < length bytes.now }
+        ensures shorter { length result.now < length bytes.now }
+        ensures heard { (all : List ℕ) → IsHearing self.old bytes.now all → IsHearing self.new result.now all }
     {
         if !self.within && bytes[0] == b'r' {
             self.refused = u64::wrapping_add(self.refused, 1);
@@ -62,7 +77,9 @@ impl Tally {
     }
 
     // Hears the bytes that come next.
-    fn hear(&mut self, bytes: &[u8]) {
+    fn hear(&mut self, bytes: &[u8])
+        ensures { (heard : List ℕ) → HasHeard self.old heard → HasHeard self.new (heard ++ bytes.now) }
+    {
         let mut rest = bytes;
         'lines: while !rest.is_empty() {
             rest = self.hear_line(rest);
@@ -75,7 +92,15 @@ impl Sink for Tally {
 
     ghost failed_calls = { λ _. 0 };
 
-    fn write(&mut self, bytes: &[u8]) -> Result<usize, Failed> {
+    fn write(&mut self, bytes: &[u8]) -> Result<usize, Failed>
+        ensures within { WritesAtMost result bytes.now }
+        ensures progress { TakesSome result bytes.now }
+        ensures failures { 0 ≡ failures_after result 0 }
+        ensures bytes { WriteAppends None None result bytes.now }
+
+        ensures all { result ≡ Ok (length bytes.now) }
+        ensures heard { (heard : List ℕ) → HasHeard self.old heard → HasHeard self.new (heard ++ bytes.now) }
+    {
         self.hear(bytes);
         Ok(bytes.len())
     }
@@ -95,6 +120,7 @@ impl<W> Strict<W> {
     pub fn new(inner: W) -> Strict<W>
         ensures inner { inner_of result ≡ inner }
         ensures late { late_of result ≡ 0 }
+        ensures passed { HasPassed result [] }
     {
         Strict {
             inner,
@@ -104,7 +130,9 @@ impl<W> Strict<W> {
     }
 
     /// The number of the line whose refusal was taken whole, counted from 1, if one was.
-    pub fn refused(&self) -> Option<u64> {
+    pub fn refused(&self) -> Option<u64>
+        ensures { (passed : List ℕ) → HasPassed self.now passed → result ≡ wrapped (first_refusal (cut passed).lines) }
+    {
         if self.tally.refused() > 0 && self.tally.has_ended() {
             Some(self.tally.lines())
         } else {
@@ -117,6 +145,7 @@ impl<W> Strict<W> {
 fn line_length(bytes: &[u8]) -> usize
     ensures within { result ≤ length bytes.now }
     ensures some { 0 < length bytes.now → 0 < result }
+    ensures line { HasNoBreak (take (result - 1) bytes.now) }
 {
     match line_end(bytes) {
         Some(end) => end + 1,
@@ -129,7 +158,16 @@ impl<W: Sink> Sink for Strict<W> {
 
     ghost failed_calls = { λ s. W.failed_calls (inner_of s) + late_of s };
 
-    fn write(&mut self, bytes: &[u8]) -> Result<usize, Failed> {
+    fn write(&mut self, bytes: &[u8]) -> Result<usize, Failed>
+        requires { W.failed_calls (inner_of self.old) + late_of self.old < 2 ^ 63 }
+        ensures within { WritesAtMost result bytes.now }
+        ensures progress { TakesSome result bytes.now }
+        ensures failures { W.failed_calls (inner_of self.new) + late_of self.new ≡ failures_after result (W.failed_calls (inner_of self.old) + late_of self.old) }
+        ensures bytes { WriteAppends (W.taken (inner_of self.old)) (W.taken (inner_of self.new)) result bytes.now }
+
+        ensures passed { (passed : List ℕ) → HasPassed self.old passed → HasPassed self.new (passed ++ taken_by result bytes.now) }
+        ensures late { (passed : List ℕ) → HasPassed self.old passed → late_of self.new ≡ late_after (first_refusal (cut passed).lines) (late_of self.old) }
+    {
         if self.refused().is_some() {
             self.late += 1;
             return Err(Failed);

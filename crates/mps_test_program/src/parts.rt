@@ -11,7 +11,7 @@ use mps_program::{
 };
 use mps_session::Session;
 use mps_text::TextKind;
-use mps_wire::script::run_script;
+use mps_wire::script::replay_session;
 use mps_words::order;
 use std::alloc::{AllocError, Global};
 use std::process::Abort;
@@ -51,7 +51,7 @@ pub(crate) fn answers(alloc: Global, protocol: &str, script: &str) -> Result<Vec
     let Ok((roles, session)) = opened(alloc, whole(alloc, protocol)?) else {
         return Err("a protocol".into());
     };
-    if run_script(alloc, &mut reader, &mut writer, roles, session).is_err() {
+    if replay_session(alloc, &mut reader, &mut writer, roles, session).is_err() {
         return Err("a script".into());
     }
     Ok(Vec::from_slice(alloc, writer.bytes())?)
@@ -112,19 +112,19 @@ struct Words(&'static [&'static str], &'static str);
 const ORDERS: &[Words] = &[
     Words(
         &["mps_tool", "run", "a.protocol", "a.script"],
-        "Offline(Run { file: \"a.protocol\", script: \"a.script\", strict: false })",
+        "Offline { task: Run { file: \"a.protocol\", script: \"a.script\", strict: false }, verbose: false }",
     ),
     Words(
         &["mps_tool", "run", "--strict", "a.protocol", "-"],
-        "Offline(Run { file: \"a.protocol\", script: \"-\", strict: true })",
+        "Offline { task: Run { file: \"a.protocol\", script: \"-\", strict: true }, verbose: false }",
     ),
     Words(
         &["mps_tool", "same", "a.protocol", "a.script", "b.script"],
-        "Offline(Same { file: \"a.protocol\", first: \"a.script\", second: \"b.script\" })",
+        "Offline { task: Same { file: \"a.protocol\", first: \"a.script\", second: \"b.script\" }, verbose: false }",
     ),
     Words(
         &["mps_tool", "check", "a.protocol"],
-        "Offline(Check { file: \"a.protocol\" })",
+        "Offline { task: Check { file: \"a.protocol\" }, verbose: false }",
     ),
     Words(
         &[
@@ -133,8 +133,63 @@ const ORDERS: &[Words] = &[
             "a.protocol",
             "--port=0",
             "--sessions=2",
+            "--endless",
         ],
-        "Serve { file: \"a.protocol\", port: 0, sessions: 2, first: 1, connections: None, idle: None, journal: None }",
+        "Serve { file: \"a.protocol\", port: 0, sessions: 2, first: 1, connections: None, idle: None, journal: None, verbose: false }",
+    ),
+    Words(
+        &[
+            "mps_tool",
+            "serve",
+            "a.protocol",
+            "--port=0",
+            "--sessions=2",
+            "--connections=3",
+            "-v",
+        ],
+        "Serve { file: \"a.protocol\", port: 0, sessions: 2, first: 1, connections: Some(3), idle: None, journal: None, verbose: true }",
+    ),
+    Words(
+        &[
+            "mps_tool",
+            "serve",
+            "a.protocol",
+            "--port=0",
+            "--sessions=2",
+            "--journal=kept",
+        ],
+        "Serve { file: \"a.protocol\", port: 0, sessions: 2, first: 1, connections: None, idle: None, ",
+    ),
+    // which connections a server accepts is said, unless it has a journal
+    Words(
+        &[
+            "mps_tool",
+            "serve",
+            "a.protocol",
+            "--port=0",
+            "--sessions=2",
+        ],
+        "2",
+    ),
+    Words(
+        &[
+            "mps_tool",
+            "serve",
+            "a.protocol",
+            "--port=0",
+            "--sessions=2",
+            "--connections=3",
+            "--endless",
+        ],
+        "2",
+    ),
+    Words(
+        &["mps_tool", "-v", "check", "a.protocol"],
+        "Offline { task: Check { file: \"a.protocol\" }, verbose: true }",
+    ),
+    Words(
+        &["mps_tool", "check", "--verbose", "a.protocol"],
+        "Offline { task: Check { file: \"a.protocol\" }, verbose: true }",
     ),
     Words(
         &[
@@ -144,13 +199,14 @@ const ORDERS: &[Words] = &[
             "--port=0",
             "--sessions=2",
             "--first=9223372036854775808",
+            "--endless",
         ],
         "Serve { file: \"a.protocol\", port: 0, sessions: 2, first: 9223372036854775808, ",
     ),
-    Words(&["mps_tool", "--help"], "Offline(Help { text: "),
+    Words(&["mps_tool", "--help"], "Offline { task: Help { text: "),
     Words(
         &["mps_tool", "--version"],
-        "Offline(Help { text: \"mps_tool 0.1.0\" })",
+        "Offline { task: Help { text: \"mps_tool 0.1.0\" }, verbose: false }",
     ),
     Words(&["mps_tool"], "2"),
     Words(&["mps_tool", "fly"], "2"),
@@ -201,7 +257,7 @@ fn tells_faults(rt: HostRuntime) -> Result<(), Fail> {
             2,
         ),
         (ToolFault::Open, "refused open", 3),
-        (ToolFault::Read, "refused read", 4),
+        (ToolFault::Read { why: None }, "refused read", 4),
         (ToolFault::Write, "refused write", 4),
         (ToolFault::Turns, "refused turns", 4),
         (ToolFault::Bind { why: None }, "refused bind", 2),
@@ -506,7 +562,7 @@ fn reads_texts(rt: HostRuntime) -> Result<(), Fail> {
 
 // Whether it is told that a read failed.
 fn is_failed_read<T: Drop>(had: Result<T, ToolFault<'_>>) -> bool {
-    matches!(had, Err(ToolFault::Read))
+    matches!(had, Err(ToolFault::Read { .. }))
 }
 
 #[test]
@@ -633,9 +689,9 @@ fn names_files_that_do_not_open(rt: HostRuntime) -> Result<(), Fail> {
 
 #[test]
 fn runs_no_file_that_does_not_open(rt: HostRuntime) -> Result<(), Fail> {
-    let found = run_file(&rt, "no such file", "no such script", true).err();
+    let found = run_file(&rt, "no such file", "no such script", true, false).err();
     assert!(rt; names_no_file(rt.alloc(), found)?);
-    let found = compare_files(&rt, "no such file", "no such script", "nor this").err();
+    let found = compare_files(&rt, "no such file", "no such script", "nor this", false).err();
     assert!(rt; names_no_file(rt.alloc(), found)?);
     Ok(())
 }

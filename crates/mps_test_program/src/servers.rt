@@ -57,7 +57,7 @@ where
     let Ok(hub) = hub_of(alloc, &protocol, first, sessions) else {
         return Err("no hub".into());
     };
-    match serve_to(rt, &mut writer, hub, port, ONE, None) {
+    match serve_to(rt, &mut writer, hub, port, ONE, None, false) {
         Ok(()) => Ok(Vec::from_slice(alloc, writer.bytes())?),
         Err(_) => Err("a fault".into()),
     }

@@ -68,6 +68,8 @@ const FILES: &[(&str, &str)] = &[
         "roles a b c ; a -> b { l : a -> c : int . end , r : end }",
     ),
     ("empty", ""),
+    ("scrawl", SCRAWL),
+    ("scribble", SCRIBBLE),
 ];
 
 // The words that the program is called with, after its name; room for so many printed bytes; what is
@@ -107,14 +109,14 @@ const RUNS: &[Row] = &[
         &["mps_tool", "run", "relay", "no script"],
         1000,
         "",
-        "refused file no script\nentity not found\n",
+        "refused file no script\n",
         2,
     ),
     Row(
         &["mps_tool", "run", "no file", "script"],
         1000,
         "",
-        "refused file no file\nentity not found\n",
+        "refused file no file\n",
         2,
     ),
     // the protocol is read and checked before the script is opened
@@ -146,14 +148,14 @@ const STRICT: &[Row] = &[
         &["mps_tool", "run", "--strict", "talk", "talked"],
         1000,
         "done 1\ndone 2 go\ndone 3\nrefused wrongact\n",
-        "refused line 4\n",
+        "refused at line 4\n",
         1,
     ),
     Row(
         &["mps_tool", "run", "--strict", "ring", "stray"],
         1000,
         "refused nothingqueued\n",
-        "refused line 1\n",
+        "refused at line 1\n",
         1,
     ),
     Row(
@@ -167,7 +169,7 @@ const STRICT: &[Row] = &[
         &["mps_tool", "run", "--strict", "relay", "no script"],
         1000,
         "",
-        "refused file no script\nentity not found\n",
+        "refused file no script\n",
         2,
     ),
 ];
@@ -249,7 +251,7 @@ const COMPARISONS: &[Row] = &[
         &["mps_tool", "same", "no file", "no script", "none"],
         1000,
         "",
-        "refused file no file\nentity not found\n",
+        "refused file no file\n",
         2,
     ),
     // the protocol is checked before a script is opened
@@ -271,15 +273,14 @@ const COMPARISONS: &[Row] = &[
         &["mps_tool", "same", "pairs", "no script", "none"],
         1000,
         "",
-        "refused file no script\nentity not found\n",
+        "refused file no script\n",
         2,
     ),
-    // how many lines were refused is told
     Row(
         &["mps_tool", "same", "ring", "stray", "round"],
         1000,
         "different\n",
-        "first script: 4 of 4 lines refused\nsecond script: 3 of 10 lines refused\n",
+        "",
         1,
     ),
     // both scripts are opened before one is read
@@ -287,7 +288,7 @@ const COMPARISONS: &[Row] = &[
         &["mps_tool", "same", "pairs", "torn", "none"],
         1000,
         "",
-        "refused file none\nentity not found\n",
+        "refused file none\n",
         2,
     ),
     Row(
@@ -303,6 +304,125 @@ const COMPARISONS: &[Row] = &[
         "",
         "refused read\n",
         4,
+    ),
+];
+
+// With -v standard error is told more, wherever it stands.
+const VERBOSE: &[Row] = &[
+    Row(
+        &["mps_tool", "-v", "run", "relay", "no script"],
+        1000,
+        "",
+        "refused file no script\nentity not found\n",
+        2,
+    ),
+    Row(
+        &["mps_tool", "check", "--verbose", "no file"],
+        1000,
+        "",
+        "refused file no file\nentity not found\n",
+        2,
+    ),
+    Row(
+        &["mps_tool", "-v", "same", "pairs", "torn", "ab first"],
+        1000,
+        "",
+        "refused read\nunsupported\n",
+        4,
+    ),
+    Row(
+        &["mps_tool", "same", "ring", "stray", "round", "-v"],
+        1000,
+        "different\n",
+        "first script: 4 of 4 lines refused\nsecond script: 3 of 10 lines refused\n",
+        1,
+    ),
+    Row(
+        &["mps_tool", "-v", "same", "pairs", "ab first", "cd first"],
+        1000,
+        "same\n",
+        "",
+        0,
+    ),
+    Row(
+        &["mps_tool", "-v", "run", "relay", "script"],
+        1000,
+        "done 1\ndone 2 5\ndone 3\ndone 4 7\n",
+        "",
+        0,
+    ),
+    Row(
+        &["mps_tool", "-v", "run", "greeting", "words"],
+        1000,
+        "done 1\ndone 2 \"good day\"\ndone 3\ndone 4 true\n",
+        "",
+        0,
+    ),
+];
+
+// Lines that spell nothing, each for a reason of its own, and the last without an LF.
+const SCRAWL: &str =
+    "a send b 5\r\n\n# a note\na\tsend b 5\n a send b 5\na send  b 5\n1 a send b 5\nz mark m\n\
+    a fly\na send z 5\na send b x\na send b \"\\\"\na undo 03\na mark m\nb pick";
+
+// And more of them.
+const SCRIBBLE: &str =
+    "a  undo 1\na\na 1 send b 5\nb recv a end\na choose b\na mark X\na commit x\na news 007\n\
+    a send b \"x\na send b \"x\ty\"\n";
+
+const UNREADABLE: &[Row] = &[
+    Row(
+        &["mps_tool", "-v", "run", "relay", "scrawl"],
+        1000,
+        "refused line\nrefused line\nrefused line\nrefused line\nrefused line\nrefused line\nrefused line\n\
+         refused line\nrefused line\nrefused line\nrefused line\nrefused line\nrefused line\ndone 1\nrefused line\n",
+        "line 1 is unreadable: it ends with a carriage return; a line ends with an LF alone\n\
+         line 2 is unreadable: it is empty\n\
+         line 3 is unreadable: a script has no comments\n\
+         line 4 is unreadable: it has a tab; one space stands between two parts\n\
+         line 5 is unreadable: it has a space at its beginning or end\n\
+         line 6 is unreadable: it has two spaces in a row\n\
+         line 7 is unreadable: a script's lines have no numbers\n\
+         line 8 is unreadable: its first word is no role of the protocol\n\
+         line 9 is unreadable: its second word is no command\n\
+         line 10 is unreadable: after `send` comes a role of the protocol\n\
+         line 11 is unreadable: what is sent is a whole number of 64 bits without zeros before it, true, false, or a text in double quotes\n\
+         line 12 is unreadable: a text has a quote, a backslash, or a byte that can't be shown\n\
+         line 13 is unreadable: after `undo` and `rollback` comes a step's number, of 64 bits, without zeros before it\n\
+         line 15 is unreadable: after `pick` comes a role, and nothing else\n",
+        0,
+    ),
+    Row(
+        &["mps_tool", "run", "relay", "scrawl", "--strict"],
+        1000,
+        "refused line\n",
+        "refused at line 1\n",
+        1,
+    ),
+    Row(
+        &["mps_tool", "-v", "run", "relay", "scribble"],
+        1000,
+        "refused line\nrefused line\nrefused line\nrefused line\nrefused line\nrefused line\nrefused line\n\
+         refused line\nrefused line\nrefused line\n",
+        "line 1 is unreadable: it has two spaces in a row\n\
+         line 2 is unreadable: a command comes after the role\n\
+         line 3 is unreadable: a script's lines have no numbers\n\
+         line 4 is unreadable: after `recv` come a role and the slot's name, which is no reserved word\n\
+         line 5 is unreadable: after `choose` come a role and a label\n\
+         line 6 is unreadable: after `mark` and `back` comes a mark's name, which is no reserved word\n\
+         line 7 is unreadable: after `commit` and `show` comes nothing\n\
+         line 8 is unreadable: after `news` comes a number of entries, of 64 bits, without zeros before it\n\
+         line 9 is unreadable: a text ends with a double quote, and nothing comes after it\n\
+         line 10 is unreadable: a text has a quote, a backslash, or a byte that can't be shown\n",
+        0,
+    ),
+    // a strict run tells of no line after that with which it ends
+    Row(
+        &["mps_tool", "-v", "run", "relay", "scribble", "--strict"],
+        1000,
+        "refused line\n",
+        "refused at line 1\n",
+        1,
     ),
 ];
 
@@ -355,7 +475,7 @@ const CHECKS: &[Row] = &[
         &["mps_tool", "check", "no file"],
         1000,
         "",
-        "refused file no file\nentity not found\n",
+        "refused file no file\n",
         2,
     ),
 ];
@@ -366,7 +486,7 @@ fn obeyed<'a, R: Files + Input + AllocGlobal + Print + Eprint>(
     words: &'a [&'a str],
 ) -> Result<u8, ToolFault<'a>> {
     match order(rt.alloc(), words)? {
-        Order::Offline(task) => carry_out(rt, task),
+        Order::Offline { task, verbose } => carry_out(rt, task, verbose),
         Order::Serve { .. } => Err(ToolFault::Bind { why: None }),
     }
 }
@@ -414,6 +534,16 @@ fn compares_files(rt: HostRuntime) {
 }
 
 #[test]
+fn says_more(rt: HostRuntime) {
+    plays(&rt, rt.alloc(), VERBOSE)
+}
+
+#[test]
+fn says_why_lines_are_unreadable(rt: HostRuntime) {
+    plays(&rt, rt.alloc(), UNREADABLE)
+}
+
+#[test]
 fn sends_texts_and_truth_values(rt: HostRuntime) {
     plays(&rt, rt.alloc(), GREETINGS)
 }
@@ -458,7 +588,7 @@ fn tells_its_use(rt: HostRuntime) {
 #[test]
 fn runs_and_shows(rt: HostRuntime) {
     let machine = Machine::new(rt.alloc(), FILES, 1000);
-    let done = run_file(&machine, "relay", "script", false).is_ok()
+    let done = run_file(&machine, "relay", "script", false, false).is_ok()
         && check_file(&machine, "relay").is_ok();
     let (printed, _) = machine.output();
     assert!(rt; done && printed.starts_with(b"done 1\n"));

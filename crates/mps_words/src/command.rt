@@ -4,7 +4,11 @@
 #[derive(Debug, Drop)]
 pub enum Order<'a> {
     /// A task that needs no network.
-    Offline(Task<'a>),
+    Offline {
+        task: Task<'a>,
+        /// Whether more is told of what went wrong.
+        verbose: bool,
+    },
     /// Serve so many sessions of the protocol in the file at that port.
     Serve {
         file: &'a str,
@@ -18,6 +22,8 @@ pub enum Order<'a> {
         idle: Option<u64>,
         /// Where the sessions are kept, if they are.
         journal: Option<JournalFolder<'a>>,
+        /// Whether more is told of what went wrong.
+        verbose: bool,
     },
 }
 

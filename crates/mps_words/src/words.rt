@@ -17,6 +17,9 @@ use std::{env, io};
 // The version of the program.
 const VERSION: &str = "0.1.0";
 
+// The name of the option of all commands.
+const VERBOSE: &str = "verbose";
+
 // What is said of words of which one is no text.
 const NO_TEXT: &str = "error: a word is not UTF-8";
 
@@ -30,10 +33,14 @@ enum Given {
     Always,
     // with a word, or not at all
     Sometimes,
+    // with a word, unless one of those other options is given
+    Unless(&'static [&'static str]),
     // without a word, or not at all
     Alone,
     // the same, together with that other option
     AloneWith(&'static str),
+    // the same, without that other option
+    AloneWithout(&'static str),
 }
 
 // The numbers from one to another, both included.
@@ -143,9 +150,17 @@ const FIRST_SESSION: Word = Word {
 // How many connections a server accepts.
 const CONNECTIONS: Word = Word {
     name: "connections",
-    help: "How many connections are accepted, 1 to 64; all that come, if it isn't given",
-    given: Given::Sometimes,
+    help: "How many connections are accepted, 1 to 64; needed without --journal and --endless, with which all that come are",
+    given: Given::Unless(&["journal", "endless"]),
     range: Some(CONNECTION_COUNTS),
+};
+
+// Whether it accepts all that come.
+const ENDLESS: Word = Word {
+    name: "endless",
+    help: "Connections are accepted until the process is ended",
+    given: Given::AloneWithout("connections"),
+    range: None,
 };
 
 // Where the sessions are kept.
@@ -209,6 +224,7 @@ const FORMS: &[Form] = &[
             SESSIONS,
             FIRST_SESSION,
             CONNECTIONS,
+            ENDLESS,
             JOURNAL,
             SYNC,
             IDLE,
@@ -230,16 +246,32 @@ fn argument<'a>(alloc: Global, word: &Word) -> Arg<'a> {
     };
     match word.given {
         Given::Always => argument.required(true),
-        Given::Sometimes => argument,
-        Given::Alone | Given::AloneWith(_) => argument.action(ArgAction::SetTrue),
+        Given::Sometimes | Given::Unless(_) => argument,
+        Given::Alone | Given::AloneWith(_) | Given::AloneWithout(_) => {
+            argument.action(ArgAction::SetTrue)
+        }
     }
 }
 
-// The option that takes the word, with the option without which it may not be given.
+// The option of all commands that says more; it may stand before a command or after it.
+fn verbose<'a>(alloc: Global) -> Arg<'a> {
+    Arg::new(alloc, VERBOSE)
+        .long(VERBOSE)
+        .short('v')
+        .help(
+            "Tells more on standard error: the system's reason for a fault, which lines of scripts were unreadable or how many refused, connections that were lost",
+        )
+        .action(ArgAction::SetTrue)
+        .global(true)
+}
+
+// The option that takes the word, with the options on which it depends.
 fn option<'a>(alloc: Global, word: &Word) -> Result<Arg<'a>, AllocError> {
     let option = argument(alloc, word).long(word.name);
     match word.given {
+        Given::Unless(others) => option.required_unless_present_any(others),
         Given::AloneWith(other) => option.requires_arg(other),
+        Given::AloneWithout(other) => option.conflicts_with(other),
         _ => Ok(option),
     }
 }
@@ -270,6 +302,7 @@ fn program<'a>(alloc: Global) -> Result<Command<'a>, AllocError> {
     let mut program = Command::new(alloc, "mps_tool")
         .about("A monitor for multiparty sessions")
         .version(VERSION)
+        .arg(verbose(alloc))?
         .subcommand_required(true);
     for form in FORMS {
         program = program.subcommand(command(alloc, form)?)?;
@@ -315,6 +348,7 @@ fn serve_in<'a>(file: &'a str, found: &ArgMatches<'a>) -> Option<Order<'a>>
     let connections = bound_in(found, "connections", CONNECTION_COUNTS)?;
     let idle = bound_in(found, "idle", IDLE_SECONDS)?;
     let journal = journal_in(found);
+    let verbose = found.get_flag(VERBOSE);
     Some(Order::Serve {
         file,
         port: port as u16,
@@ -323,6 +357,7 @@ fn serve_in<'a>(file: &'a str, found: &ArgMatches<'a>) -> Option<Order<'a>>
         connections,
         idle,
         journal,
+        verbose,
     })
 }
 
@@ -348,19 +383,29 @@ fn run_in<'a>(file: &'a str, found: &ArgMatches<'a>) -> Option<Task<'a>> {
     })
 }
 
+// The task of that command.
+fn task_in<'a>(command: &str, file: &'a str, found: &ArgMatches<'a>) -> Option<Task<'a>> {
+    match command {
+        "check" => Some(Task::Check { file }),
+        "run" => run_in(file, found),
+        "same" => same_in(file, found),
+        _ => None,
+    }
+}
+
 // The order that stands in the words, as they matched the commands. There is one, since clap has looked at each word.
 fn order_in<'a>(matches: &ArgMatches<'a>) -> Option<Order<'a>>
     ensures { IfSome result IsInRange }
 {
     let (command, found) = matches.subcommand()?;
     let file = found.get_str("FILE")?;
-    match command {
-        "check" => Some(Order::Offline(Task::Check { file })),
-        "run" => Some(Order::Offline(run_in(file, found)?)),
-        "same" => Some(Order::Offline(same_in(file, found)?)),
-        "serve" => serve_in(file, found),
-        _ => None,
+    if command == "serve" {
+        return serve_in(file, found);
     }
+    Some(Order::Offline {
+        task: task_in(command, file, found)?,
+        verbose: found.get_flag(VERBOSE),
+    })
 }
 
 // What clap says of words that match no command, without blanks at its end.
@@ -380,7 +425,10 @@ fn unmatched<'a>(alloc: Global, error: &Error) -> Result<Order<'a>, UseFault>
     if error.use_stderr() {
         return Err(UseFault::Usage { text });
     }
-    Ok(Order::Offline(Task::Help { text }))
+    Ok(Order::Offline {
+        task: Task::Help { text },
+        verbose: false,
+    })
 }
 
 // The order that stands in the words, as they matched the commands, or a fault of use.

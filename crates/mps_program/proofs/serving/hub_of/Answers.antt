@@ -4,5 +4,5 @@ use Rattle.mps_program.proofs.serving.hub_of.Goals as goal
 
 pub returns-clause-opened : goal.returns-clause-opened
 returns-clause-opened c =
-    opened_hub c.args.protocol.now.roles.items c.in_ok-roles.roles (global_type c.args.protocol.now.body) c.args.first c.args.sessions c.in_ok-made.made.items c.in_ok-of.field-0
-    c.in_ok-made.ensures.new c.in_ok-made.ensures.count c.requires.some.0 c.in_ok-roles.ensures.ok c.in_ok-of.ensures.names c.in_ok-of.ensures.first c.in_ok-of.ensures.cells
+    opened_hub c.args.protocol.now.roles.items c.in_ok-roles.roles (global_type c.args.protocol.now.body) c.args.first c.args.sessions c.in_ok-made.made.items c.in_ok-of_numbered.field-0
+    c.in_ok-made.ensures.new c.in_ok-made.ensures.count c.requires.some.0 c.in_ok-roles.ensures.ok c.in_ok-of_numbered.ensures.names c.in_ok-of_numbered.ensures.first c.in_ok-of_numbered.ensures.cells
