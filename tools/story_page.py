@@ -194,8 +194,10 @@ def digest(text):
 
 def page(story, protocol, script):
     """The page of the story of a script under a protocol, by their names."""
-    colours = f":root {{ --ink: {INK}; --arrow: {ARROW}; --shade: {SHADE}; --paper: {PAPER}; --letter: {LETTER}px; }}\n"
-    style, code, end = colours + part("page.css"), part("page.js"), story.begin + len(story.lines)
+    code, end = part("page.js"), story.begin + len(story.lines)
+    values = (f":root {{ --ink: {INK}; --arrow: {ARROW}; --shade: {SHADE}; --paper: {PAPER}; --letter: {LETTER}px; "
+              f"--digits: {len(str(end))}; }}\n")
+    style = values + part("page.css")
     allowed = f"style-src {digest(style)}; script-src {digest(code)}"
     return string.Template(part("page.html")).substitute(
         policy=f"default-src 'none'; {allowed}; base-uri 'none'; form-action 'none'", title=f"{escape(script)}, line by line", protocol=escape(protocol), roles_count=len(story.types), count=story.whole,

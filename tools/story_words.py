@@ -7,25 +7,10 @@ import re
 
 import story_chains
 from drawing import said
+from unreadable import either, listed, unreadable
 
 SORTS = {"int": "an int", "bool": "a bool", "text": "a text"}
-LONGEST = 512  # bytes of a line
-FORMS = {"send": "send PEER VALUE", "recv": "recv PEER SLOT", "choose": "choose PEER LABEL", "pick": "pick PEER",
-         "mark": "mark NAME", "commit": "commit", "undo": "undo NUMBER", "rollback": "rollback NUMBER", "back": "back NAME",
-         "news": "news NUMBER", "show": "show"}
 TAKEN = {"recv": "received what {0} sent", "pick": "picked what {0} chose"}
-
-
-def either(names):
-    """These names, as one of which to choose."""
-    *most, last = names
-    return f"{', '.join(most)} or {last}" if most else last
-
-
-def listed(names):
-    """These names, all of them."""
-    *most, last = names
-    return f"{', '.join(most)} and {last}" if most else last
 
 
 def steps(numbers):
@@ -60,26 +45,9 @@ def refusal(session, line, answer):
     """Why a line is refused, by the session as it stands."""
     word, *number = answer.split(" ")[1:]
     if word == "line":
-        return f"This can't be read: {unreadable(line, session.types)}."
+        return f"This can't be read: {unreadable(line, session.types)[1]}."
     role, verb, *parts = line.decode("ascii").split(" ", 3)
     return REASONS[word](session, role, verb, parts, *map(int, number))
-
-
-def unreadable(line, types):
-    """What is wrong with a line that can't be read."""
-    role, verb, *_ = *line.split(b" ", 2), b"", b""
-    role, verb = role.decode("latin-1"), verb.decode("latin-1")
-    if not line:
-        return "the line is empty"
-    if len(line) > LONGEST:
-        return f"it has {len(line)} bytes, and a line has {LONGEST} at most"
-    if any(byte < 0x20 or byte > 0x7E for byte in line):
-        return "it has a byte that no line may have"
-    if role not in types:
-        return f"its first word is no role of the protocol, whose roles are {listed(list(types))}"
-    if verb not in FORMS:
-        return f"after the role comes one of {either(list(FORMS))}"
-    return f"the form of such a line is ROLE {FORMS[verb]}, with one space between two words"
 
 
 def next_of(session, role):

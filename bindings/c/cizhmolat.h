@@ -1,3 +1,4 @@
+/* SPDX-License-Identifier: MIT OR Apache-2.0 */
 /* cizhmolat.h: rooms in the caller's own process. A room has one session of a protocol, and answers the lines of its roles.
  *
  * Link libcizhmolat.a or libcizhmolat.so, which `./mps library DIR` makes, and nothing else. docs/EMBEDDING.md has a whole

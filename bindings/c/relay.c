@@ -1,3 +1,4 @@
+/* SPDX-License-Identifier: MIT OR Apache-2.0 */
 /* relay: a conversation of three roles, and a step that is taken back with all that depends on it.
  *
  *     ./mps library lib

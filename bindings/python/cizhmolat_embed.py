@@ -1,3 +1,4 @@
+# SPDX-License-Identifier: MIT OR Apache-2.0
 """cizhmolat_embed: rooms in this process, with the names of cizhmolat, the client of a server.
 
     from cizhmolat_embed import Role, Room
@@ -29,6 +30,7 @@ import re
 import threading
 import time
 from pathlib import Path
+from typing import Any
 
 import cizhmolat
 from cizhmolat import Error, count, name, read
@@ -82,11 +84,12 @@ def library() -> ctypes.CDLL:
     files = [Path(folder) / "libcizhmolat.so" for folder in folders if folder]
     found = ctypes.CDLL(str(next((file for file in files if file.exists()), "libcizhmolat.so")))
     size, text, place = ctypes.c_size_t, ctypes.c_char_p, ctypes.c_void_p
-    for call, result, *takes in (
-            ("mps_open", ctypes.c_bool, text, size, place, ctypes.POINTER(ctypes.c_uint32), ctypes.POINTER(ctypes.c_uint64)),
-            ("mps_line", size, place, text, size, text, size, place, size), ("mps_answer", size, place, place, size),
-            ("mps_entries", ctypes.c_uint64, place), ("mps_entry", size, place, ctypes.c_uint64, place, size),
-            ("mps_close_at", None, place)):
+    calls: tuple[tuple[str, Any, list[Any]], ...] = (
+        ("mps_open", ctypes.c_bool, [text, size, place, ctypes.POINTER(ctypes.c_uint32), ctypes.POINTER(ctypes.c_uint64)]),
+        ("mps_line", size, [place, text, size, text, size, place, size]), ("mps_answer", size, [place, place, size]),
+        ("mps_entries", ctypes.c_uint64, [place]), ("mps_entry", size, [place, ctypes.c_uint64, place, size]),
+        ("mps_close_at", None, [place]))
+    for call, result, takes in calls:
         getattr(found, call).restype, getattr(found, call).argtypes = result, takes
     return found
 
@@ -195,6 +198,7 @@ class Role(cizhmolat.Role):
     port and others  may stand there as for a served session, and do nothing
 
     `resumed` is always None."""
+    session: Room  # type: ignore[assignment]  # of a server it is a number
 
     def __init__(self, session: Room, role: str, port: int = 0, *, host: str = "", numbers: str | os.PathLike[str] | None = None,
                  timeout: float = 0, patience: float = 0) -> None:
@@ -204,6 +208,9 @@ class Role(cizhmolat.Role):
 
     def close(self) -> None:
         """Does nothing: the room is closed by itself."""
+
+    def settle(self) -> None:
+        """Does nothing: no command is under way."""
 
     @property
     def newest(self) -> int:

@@ -1,3 +1,4 @@
+# SPDX-License-Identifier: MIT OR Apache-2.0
 """cizhmolat: speaks for one role of a session that `./mps serve` serves. One file, of the standard library alone.
 
     from cizhmolat import Role
@@ -25,19 +26,22 @@ command isn't sent.
 A role is for one client at a time: where a connection breaks between a line and its answer, the line never came, and another
 client gives exactly one numbered command before the role joins again, no answer tells that command from the one that was lost.
 
-A command is in the file too, from before it is sent until `ask`, or the method that gave it, returns its answer, or another
-command takes its place. However many programs end in between, the one that gives it again gets its answer. What a program
-did with an answer no file of this module knows. So one that may end between an answer and its own books first writes
-`newest + 1` there. When it is started again it gives the command again, unless `newest` has reached that number and `resumed`
-is None: then it had the answer, and `standing` tells the step. After an exception of a signal's handler it does the same,
-with a new Role.
+A command is in the file too, from before it is sent until `ask`, or the method that gave it, returns its answer, another
+command takes its place, or `settle` lets go of it. However many programs end in between, the one that gives it again gets its
+answer. What a program did with an answer no file of this module knows. So one that may end between an answer and its own
+books first writes `newest + 1` there. When it is started again it gives the command again, unless `newest` has reached that
+number and `resumed` is None: then it had the answer, and `standing` tells the step. After an exception of a signal's handler
+it does the same, with a new Role. Such an answer says what was so when the command was run: others may have taken its step
+back since, which `resumed.survives` and `news` tell.
+
+A program that keeps no such books calls `settle` when it is started again, and then asks `standing`, which says what the
+protocol wants of the role next, which values it keeps, and which steps it did, with the labels that it chose and picked.
+Without `settle` a new command that is spelled like the one under way would be taken for it: it would get the old answer, and
+not be run.
 
 A Role is used by one thread at a time. Only this module's own exceptions and ValueError, for words that no line can have, no
 port and a file of another role, are raised; a refusal has the class of its name, such as NothingQueued, and the session is
 then as it was.
-
-A program that is started again asks `standing`, which says what the protocol wants of the role next, and which values it
-keeps.
 """
 from __future__ import annotations
 
@@ -67,7 +71,7 @@ class Error(Exception):
 
 class Unreachable(Error):
     """No server was there, or none answered, until patience or a receipt's time ran out. The command may have been run, or
-    not. Give it again, and it is run once, also by the next Role with the same file of numbers."""
+    not. Give it again, and it is run once, also by the next Role with the same file of numbers. Or `settle` finds out."""
 
 
 class NotUnderstood(Error):
@@ -208,19 +212,37 @@ class News(NamedTuple):
     gone: list[int]
 
 
+class Step(NamedTuple):
+    """A step of the role: its number; its act, which is `send`, `choose`, `recv`, `pick`, `mark` or `commit`; the peer; the
+    name, which is the label of a choice or a pick, the slot of a receipt, or that of the mark; and the value. What such an act
+    doesn't have is None."""
+    number: int
+    act: str
+    peer: str | None = None
+    name: str | None = None
+    value: Value | None = None
+
+
 class Standing(NamedTuple):
     """What the protocol wants of the role next, such as `send b int`, `pick b go stop` or `end`; the numbers of its surviving
-    steps; and what its slots keep."""
+    steps; what its slots keep; and these steps, of which the last says where it is: after a pick, in that label's branch."""
     expects: str
     past: list[int]
     store: dict[str, Value]
+    steps: list[Step]
 
 
 class Answered(NamedTuple):
     """A command that was accepted, while its answer may not have been seen, and the answer. The command is None where no
-    file tells it."""
+    file tells it. `survives` says whether the answer's step survived when the newest number was last found out: others may
+    have taken it back after the command was run. It is None where no step is meant, or no file tells the command."""
     command: str | None
     answer: str
+    survives: bool | None = None
+
+
+PARTS = {"send": ("peer", "value"), "choose": ("peer", "name"), "recv": ("peer", "name", "value"), "pick": ("peer", "name"),
+         "mark": ("name",), "commit": ()}  # what stands in a shown step after its act
 
 
 def plain(text: str) -> str:
@@ -325,8 +347,8 @@ class Numbers:
     """The newest number of a role, and the command under way, in a file.
 
     The file has a line `SESSION ROLE NUMBER`, and a second one with the command that was given under the next number, until
-    its answer is returned or another command is given. It is replaced as a whole. It is of one session: take another file for
-    another one."""
+    its answer is returned, another command is given, or `settle` lets go of it. It is replaced as a whole. It is of one
+    session: take another file for another one."""
 
     def __init__(self, path: str | os.PathLike[str] | None, owner: str) -> None:
         self.path = None if path is None else os.fsdecode(path)
@@ -379,7 +401,9 @@ class Role:
     Each time may be math.inf, also that of a receipt: then the waiting has no limit.
 
     `resumed` has the command whose answer no program got, if that command was accepted. A program whose first command is the
-    same one gets that answer, and nothing is run a second time; with any other command it goes on."""
+    same one gets that answer, and nothing is run a second time, also where `resumed.survives` is False, since the step was
+    taken back meanwhile. With any other command it goes on. `settle` lets go of that command: call it where the same words
+    would be a new one."""
 
     def __init__(self, session: int, role: str, port: int, *, host: str = "127.0.0.1",
                  numbers: str | os.PathLike[str] | None = None, timeout: float = 30, patience: float = 10) -> None:
@@ -464,19 +488,28 @@ class Role:
 
     def show(self) -> dict[str, Any]:
         """The session: its `history`, `queues` and `roles`."""
-        answer = self._read("show", r"\{.*\}")[0]
-        try:
-            return dict(json.loads(answer))
-        except ValueError:
-            self.close()
-            raise NotUnderstood(answer) from None
+        return self._shown(self.ask("show"))
 
     def standing(self) -> Standing:
-        """How the role stands in the session."""
-        shown = self.show()
+        """How the role stands in the session. A program that is started again, and goes on by this, calls `settle` first."""
+        return self._standing(self.show())
+
+    def _shown(self, answer: str) -> dict[str, Any]:
+        """The session of an answer to `show`."""
+        text = self._understood("show", answer, r"\{.*\}")[0]
+        try:
+            return dict(json.loads(text))
+        except ValueError:
+            self.close()
+            raise NotUnderstood(text) from None
+
+    def _standing(self, shown: dict[str, Any]) -> Standing:
+        """How the role stands in a session that is shown."""
         try:
             own = next(it for it in shown["roles"] if it["role"] == self.role)
-            return Standing(own["expects"], own["past"], dict(own["store"]))
+            steps = [Step(number, act, **dict(zip(PARTS[act], parts)))
+                     for number, role, act, *parts in shown["history"] if role == self.role]
+            return Standing(own["expects"], own["past"], dict(own["store"]), steps)
         except (LookupError, StopIteration, TypeError, ValueError):
             self.close()
             raise NotUnderstood(f"{shown}, to show") from None
@@ -487,6 +520,17 @@ class Role:
     def newest(self) -> int:
         """The newest number of the role's commands that was accepted."""
         return self._newest
+
+    def settle(self) -> Answered | None:
+        """Lets go of the command under way, and gives it with its answer, if it was accepted and no program got that: a later
+        command that is spelled alike is a new one. A program that is started again calls it, unless it gives that command
+        again to get its answer."""
+        if not self._is_settled:
+            self._settle(math.inf)
+        found = self.resumed
+        self._numbers.keep(self._newest)
+        self.resumed = None
+        return found
 
     def ask(self, command: str) -> str:
         """The answer to a command line, which is given without a number; refusals of it aren't raised."""
@@ -549,6 +593,7 @@ class Role:
         """Finds out which number is the newest, and whether the command under way was accepted. Where none was under way, none may
         have been."""
         numbers = self._numbers
+        past = None if numbers.command is None else self._standing(self._shown(self._ask("show", limit))).past
         first = numbers.newest + 1
         for number in range(first, first + 1 if numbers.is_known else FULL + 2):
             answer = self._exchange(f"{number} undo 0", limit)
@@ -560,7 +605,9 @@ class Role:
             self._understood(f"{number} undo 0", answer, r"(?:un)?done.*")
             if numbers.is_known and numbers.command is None:
                 raise WrongNumber("refused number", f"{number} undo 0")
-            self._newest, self.resumed = number, Answered(numbers.command, answer)
+            step = re.match(r"done (\d+)", answer)
+            survives = None if past is None or step is None else int(step[1]) in past
+            self._newest, self.resumed = number, Answered(numbers.command, answer, survives)
         if self.resumed is None or self.resumed.command is None:
             numbers.keep(self._newest)
         self._is_settled = True

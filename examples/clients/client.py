@@ -5,7 +5,8 @@ usage: client.py PORT SESSION ROLE [FILE]
 
 It joins as the role, sends each line of standard input as a command, and prints the answers. FILE keeps the number of the
 newest command, so that a client that is started again goes on from there: where the answer to the last command was lost,
-it comes when that command is given again. Without FILE the server is asked for the number.
+it comes when that command is given again. To give a new one with the same words, first give the line `settle`, which is
+answered `settled`, with the lost answer and its command if there is one. Without FILE the server is asked for the number.
 
 It ends with 0 at the end of the input, and with 1, after saying why on standard error, where it isn't used like this, can't
 join, loses the server or the role to another client, can't keep FILE, or can't print an answer, which it says too."""
@@ -19,6 +20,9 @@ from cizhmolat import Error, Role  # noqa: E402
 
 def answer(role, line):
     """The answer to a line. No line with other bytes than those of ASCII can be sent, and the server would refuse it."""
+    if line == b"settle":
+        lost = role.settle()
+        return " ".join(["settled", *filter(None, (lost.answer, lost.command) if lost else ())])
     return role.ask(line.decode("ascii")) if line.isascii() else "refused line"
 
 

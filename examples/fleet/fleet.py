@@ -16,6 +16,7 @@ import argparse
 import contextlib
 import os
 import pathlib
+import re
 import shutil
 import signal
 import socket
@@ -27,6 +28,7 @@ MPS = str(pathlib.Path(__file__).resolve().parent.parent.parent / "mps")
 SESSIONS = 16  # of a shard
 LOOK = 0.05  # seconds between two looks at the processes
 LEAST, MOST = 0.1, 10  # seconds until a process is started again
+PORTS = 65_535  # which there are
 ENDS = (signal.SIGINT, signal.SIGTERM, signal.SIGHUP)
 
 BALANCER = """# Hands each connection to the shard that has the session of its first line, `join SESSION ROLE`.
@@ -96,8 +98,11 @@ class Process:
 
     def start(self):
         self.began, self.ended = time.monotonic(), None
-        with held():  # else a process that has no name here yet would be left behind
-            self.process = subprocess.Popen(self.words, stdin=subprocess.DEVNULL, stdout=subprocess.PIPE, text=True)
+        try:
+            with held():  # else a process that has no name here yet would be left behind
+                self.process = subprocess.Popen(self.words, stdin=subprocess.DEVNULL, stdout=subprocess.PIPE, text=True)
+        except OSError as error:
+            sys.exit(f"{self.name} can't be started: {error.strerror}")
         print(f"{self.name} is process {self.process.pid}", flush=True)
 
     def look(self):
@@ -148,13 +153,21 @@ def sockets(process):
                 yield os.readlink(file)
 
 
+def count(word, port):
+    """The number of shards that a word spells, for each of which there is a port after the balancer's."""
+    most = PORTS - port
+    if not 0 < port < PORTS:
+        sys.exit(f"the port of a fleet is 1 to {PORTS - 1}, and not {port}")
+    if not re.fullmatch("[1-9][0-9]{0,4}", word) or int(word) > most:
+        sys.exit(f"a fleet at port {port} has 1 to {most} shards, and not {word}")
+    return int(word)
+
+
 def need_ports(ports):
     """Each port has to be free: haproxy would share one with another haproxy."""
     for port in ports:
         try:
             socket.create_server(("127.0.0.1", port)).close()
-        except OverflowError:
-            sys.exit(f"there is no port {port}")
         except OSError as error:
             sys.exit(f"port {port} can't be listened on: {os.strerror(error.errno)}")
 
@@ -196,11 +209,12 @@ def run(options, more, processes):
 def main():
     heed(stop)
     reader = argparse.ArgumentParser(usage=__doc__.split("usage: ")[1].split("\n")[0])
-    reader.add_argument("count", type=int, metavar="N")
+    reader.add_argument("count", metavar="N")
     reader.add_argument("file", metavar="FILE")
     reader.add_argument("--port", type=int, default=4750)
     reader.add_argument("--folder", type=pathlib.Path, default=pathlib.Path("fleet"))
     options, more = reader.parse_known_args()
+    options.count = count(options.count, options.port)
     if shutil.which("haproxy") is None:
         sys.exit("fleet.py needs haproxy, which Debian has as a package")
     processes = []

@@ -1,3 +1,4 @@
+// SPDX-License-Identifier: MIT OR Apache-2.0
 //! What a line of a room costs: prints the nanoseconds of an accepted line, of a refused one, and of an accepted one whose answer
 //! is read, each the least of forty rounds.
 

@@ -1,3 +1,4 @@
+// SPDX-License-Identifier: MIT OR Apache-2.0
 //! Runs a script on a room of a protocol: each line is a role, a space and its command, and is answered by a line.
 //!
 //!     cargo run --example script -- FILE SCRIPT

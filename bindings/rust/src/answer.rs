@@ -1,3 +1,4 @@
+// SPDX-License-Identifier: MIT OR Apache-2.0
 //! Answers and refusals, as types.
 
 use std::error::Error as StdError;

@@ -1,3 +1,4 @@
+// SPDX-License-Identifier: MIT OR Apache-2.0
 //! Rooms of Cizhmolat in the caller's own process.
 //!
 //! A [`Room`] has one session of a protocol between 2 to 8 roles. Each line that it is given is a command of one of the roles:

@@ -1,3 +1,4 @@
+// SPDX-License-Identifier: MIT OR Apache-2.0
 //! The calls of `cizhmolat.h`.
 
 use std::ffi::c_void;

@@ -1,3 +1,4 @@
+// SPDX-License-Identifier: MIT OR Apache-2.0
 //! A room as a caller sees it: each form of an answer, each refusal that a room gives, and each fault of a protocol.
 
 use cizhmolat::{Answer, Error, OpenError, ProtocolFault, Refusal, Room, TextFault, Value};
