@@ -14,6 +14,7 @@ note=$here/out/sources
 # Whether the program refuses a protocol among these words, which is then explained to the person at the terminal.
 refuses() {
     [ -t 2 ] || return 1
+    case $1 in -v | --verbose) shift ;; esac
     case $1 in check | run | same | serve) shift ;; *) return 1 ;; esac
     for word; do
         [ -f "$word" ] || continue
@@ -24,6 +25,16 @@ refuses() {
     return 1
 }
 
+# The word -v, by which the program says more to the person at the terminal, where these words don't have it yet.
+more() {
+    [ -t 2 ] || return
+    case $1 in check | run | same | serve) ;; *) return ;; esac
+    for word; do
+        case $word in -v | --verbose) return ;; esac
+    done
+    echo -v
+}
+
 case $1 in
 '' | --help | -h | help | prove | which | install | explain | library) ;;
 *)
@@ -32,7 +43,7 @@ case $1 in
             program=$here/out/$kind/$sources/mps_tool
             if [ -x "$program" ]; then
                 refuses "$@" && break
-                exec "$program" "$@"
+                exec "$program" $(more "$@") "$@"
             fi
         done
     fi

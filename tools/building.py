@@ -215,9 +215,11 @@ def copy(program, there):
 
 
 def install(program, folder):
-    """Copies the program into a folder, as mps_tool, and says where it then stands."""
-    there = os.path.join(folder, "mps_tool")
+    """Copies the program into a folder, as mps_tool, which is made if need be, and says where it then stands."""
+    there = folder
     try:
+        os.makedirs(folder, exist_ok=True)
+        there = os.path.join(folder, "mps_tool")
         copy(program, there)
     except OSError as error:
         raise Stopped(f"{there} can't be written: {error.strerror}") from error

@@ -6,7 +6,7 @@ of text with a caret below the place, and says what is expected there. tools/pro
 import os
 import re
 
-from protocols import RESERVED, Fault, is_name, is_variable, load, spelled
+from protocols import RESERVED, examined, is_name, is_variable, spelled
 
 BLANKS = b" \t\r\n"
 WIDE = 100  # characters of a line of text that are shown at most
@@ -14,12 +14,14 @@ MOST = 65_536  # bytes of a protocol's text
 LONG = 160  # characters of a local type that are shown at most
 KINDS = {"NAME": "a name", "VAR": "a variable"}
 ADVICE = "docs/DESIGNING.md of Cizhmolat shows what to do about it"
+MARK = b"\xef\xbb\xbf"  # which some editors put before a text in UTF-8
+NO_MARK = "a byte order mark stands here, which editors don't show: save the text as UTF-8 without one"
 SPELLING = "names are of small letters, digits and `_`, variables of capital ones, with a letter first"
 
 
-def told_of(path, line):
-    """What there is to say of the protocol in that file, which the program refused with that line: nothing where the file
-    can't be read again, as a pipe can't, or doesn't have that fault any more."""
+def told_of(path, line, most=None):
+    """What there is to say of the protocol in that file, which the program refused with that line, of so many faults at most:
+    nothing where the file can't be read again, as a pipe can't, or doesn't have that fault any more."""
     if not os.path.isfile(path):
         return b""
     try:
@@ -27,19 +29,16 @@ def told_of(path, line):
             text = file.read(MOST + 1)
     except OSError:
         return b""
-    fault = fault_of(text)
-    if fault is None or line != f"{fault.line}\n".encode():
+    faults = faults_of(text)
+    if not faults or line != f"{faults[0].line}\n".encode():
         return b""
-    return explanation(path, text, fault).encode(errors="surrogateescape")
+    told = "".join(explanation(path, text, fault) for fault in faults[:most])
+    return (told + f"{ADVICE}\n" * (faults[0].kind == "projection")).encode(errors="surrogateescape")
 
 
-def fault_of(text):
-    """The fault of a protocol's text, or nothing."""
-    try:
-        load(text)
-    except Fault as fault:
-        return fault
-    return None
+def faults_of(text):
+    """The faults of a protocol's text, the first first."""
+    return examined(text)[1]
 
 
 def explanation(path, text, fault):
@@ -48,7 +47,7 @@ def explanation(path, text, fault):
     line, column, shown, under = pointed(text, min(fault.at, end))
     lines = [f"{path}:{line}:{column}: {REASONS[fault.kind](text, fault)}", f"  {shown}", f"  {' ' * under}^"]
     if fault.kind == "projection":
-        lines += [*differing(fault), ADVICE]
+        lines += differing(fault)
     return "".join(f"{it}\n" for it in lines)
 
 
@@ -83,6 +82,8 @@ def where(text, token):
 def no_token(text, fault):
     """Of bytes that are no token."""
     word = re.compile(b"[A-Za-z0-9_]*").match(text, fault.at).group().decode()
+    if text.startswith(MARK) and fault.at == 0:
+        return NO_MARK
     if not word:
         return "nothing in a protocol begins like this: names are of the letters a to z, and there are no comments"
     if is_name(word[:32]) or is_variable(word[:32]):
@@ -97,6 +98,8 @@ def not_expected(text, fault):
     wanted = f"{', '.join(most)} or {last}" if most else last
     found = re.compile(b"[A-Za-z0-9_]+|->|.?", re.DOTALL).match(text, fault.at).group().decode()
     why = ""
+    if fault.facts.get("counts") and (found == ";" or is_name(found)):
+        why = ": a protocol has two to eight roles"
     if "NAME" in expected and found in RESERVED:
         why = f": `{found}` is a reserved word"
     if "NAME" in expected and is_variable(found) or "VAR" in expected and is_name(found):

@@ -7,15 +7,21 @@ mps run [--strict] FILE SCRIPT
 mps same FILE SCRIPT SCRIPT    whether two scripts come to the same
 mps serve FILE --port P --sessions S ..
                                serves sessions of the protocol to clients; mps serve --help has the options
-mps explain FILE               as check; and where the protocol is refused, says where in FILE and why. The four above
-                               say it too where standard error is a terminal
+mps explain FILE               as check; and where the protocol is refused, says where in FILE and why, of each fault that
+                               can be told apart. The four above tell the first where standard error is a terminal
+mps explain FILE SCRIPT        of each line of the script that is refused or unreadable, where it is and why; ends with 1
+                               where there is one, and else with 0
 mps prove                      builds the proved program and the proved library: each crate is proved, side by side on
                                all cores, which takes about half an hour; prints where the program stands
 mps which [--path]             tells which program runs, and of which sources; with --path prints only where it stands
-mps install DIR                copies the program that runs to DIR/mps_tool, where it needs nothing of this repository
+mps install DIR                copies the program that runs to DIR/mps_tool, where it needs nothing of this repository;
+                               DIR is made if need be
 mps library DIR                copies the library for programs in C, Rust and Python to DIR, which is made if need be:
                                libcizhmolat.a, libcizhmolat.so and cizhmolat.h. docs/EMBEDDING.md says how to call it
 mps --version                  the program's version
+mps --help                     this; mps run --help and the like say what the program's own orders take
+
+After explain, install and library a path that begins with - is given as ./-x.
 
 The proved program runs where one was built of the sources as they are, else the checked one: the same sources, with a
 check at each step where a proof would have shown that nothing goes wrong. The checked one is built where it is missing,
@@ -31,18 +37,32 @@ sys.dont_write_bytecode = True
 sys.path.insert(0, os.path.dirname(os.path.realpath(__file__)))
 import building  # noqa: E402
 import explain  # noqa: E402
+import explain_script  # noqa: E402
 import output  # noqa: E402
 from sources import built, noted_digest  # noqa: E402
 
 # the words that each order of mps itself may have after it
-USES = {"prove": "", "which": "[--path]", "install": "DIR", "explain": "FILE", "library": "DIR"}
+USES = {"prove": "", "which": "[--path]", "install": "DIR", "explain": "FILE [SCRIPT]", "library": "DIR"}
+PROGRAMS = ("check", "run", "same", "serve")  # the orders of the program
+HELP = ("--help", "-h", "help")
+VERBOSE = ("-v", "--verbose")  # by which the program says more
+
+
+def asks_for_help(words):
+    """Whether these words ask for the help of mps, and not for that of one of the program's orders."""
+    if words[0] in HELP:
+        return words[1:] == [] or words[1] in USES
+    return words[0] in USES and any(word in HELP[:2] for word in words[1:])
 
 
 def may_follow(order, words):
-    """Whether these words may follow an order of mps itself."""
+    """Whether these words may follow an order of mps itself. No path among them begins with `-`."""
     if order == "which":
         return words in ([], ["--path"])
-    return len(words) == (0 if order == "prove" else 1)
+    if order == "explain" and words[1:] == ["-"]:
+        words = words[:1]
+    most = {"prove": 0, "explain": 2}.get(order, 1)
+    return min(most, 1) <= len(words) <= most and not any(word.startswith("-") for word in words)
 
 
 def which(words, sources):
@@ -65,31 +85,48 @@ def program_of(sources):
 
 def refused_file(program, words):
     """The file with a protocol among these words, if the program refuses it."""
+    words = words[words[0] in VERBOSE:]
     file = next((word for word in words[1:] if os.path.isfile(word)), None)
-    if file is None or words[0] not in ("check", "run", "same", "serve"):
+    if file is None or words[0] not in PROGRAMS:
         return None
     quiet = dict.fromkeys(("stdin", "stdout", "stderr"), subprocess.DEVNULL)
     return file if subprocess.run([program, "check", "--", file], **quiet, check=False).returncode == 3 else None
 
 
-def run_explained(program, words, file, write):
-    """The status of a run of the program. Where it refuses the protocol of that file, its line is written, and why."""
-    ran = subprocess.run([program, *words], stderr=subprocess.PIPE, check=False)
-    told = explain.told_of(file, ran.stderr) if ran.returncode == 3 else b""
+def run_explained(program, words, file, write, most=None, **streams):
+    """The status of a run of the program. Where it refuses the protocol of that file, its line is written, and why, by so many
+    faults at most."""
+    ran = subprocess.run([program, *words], stderr=subprocess.PIPE, check=False, **streams)
+    told = explain.told_of(file, ran.stderr, most) if ran.returncode == 3 else b""
     (write if told else output.tell)(ran.stderr + told)
     return ran.returncode if ran.returncode >= 0 else 128 - ran.returncode
 
 
+def explained(program, file, script=None):
+    """The status of `explain`."""
+    if script is None:
+        return run_explained(program, ["-v", "check", "--", file], file, output.write)
+    with explain_script.steady(file) as protocol, explain_script.steady(script) as text:
+        status = run_explained(program, ["-v", "check", "--", protocol], file, output.write, stdout=subprocess.DEVNULL)
+        return status or explain_script.explain(program, protocol, text, script)
+
+
+def more(words):
+    """The word by which the program says more, where these words don't have it yet."""
+    return ["-v"] if words[0] in PROGRAMS and not set(VERBOSE) & set(words) else []
+
+
 def run(program, words):
-    """Becomes the program; where a person reads what it says of a refused protocol, they are told why."""
-    file = refused_file(program, words) if words and os.isatty(2) else None
+    """Becomes the program. Where a person reads what it says, it says more; and of a refused protocol they are told why."""
+    is_read = os.isatty(2)
+    file = refused_file(program, words) if is_read else None
     if file is not None:
-        sys.exit(run_explained(program, words, file, output.tell))
-    os.execv(program, [program, *words])
+        sys.exit(run_explained(program, [*more(words), *words], file, output.tell, most=1))
+    os.execv(program, [program, *(more(words) if is_read else []), *words])
 
 
 def main():
-    if sys.argv[1:] in ([], ["--help"], ["-h"], ["help"]):
+    if not sys.argv[1:] or asks_for_help(sys.argv[1:]):
         (output.write if sys.argv[1:] else output.tell)(__doc__.encode())
         sys.exit(0 if sys.argv[1:] else 2)
     order, words = sys.argv[1], sys.argv[2:]
@@ -107,7 +144,7 @@ def main():
     elif order == "install":
         output.write(f"{building.install(program_of(sources), *words)}\n")
     elif order == "explain":
-        sys.exit(run_explained(program_of(sources), ["check", "--", *words], *words, output.write))
+        sys.exit(explained(program_of(sources), *words))
     else:
         run(program_of(sources), sys.argv[1:])
 

@@ -106,11 +106,11 @@ class Reader:
             raise self.fault("word")
         return Token(word, self.at)
 
-    def take(self, *may_come):
+    def take(self, *may_come, **facts):
         """Takes the next token, which has to be one of these, or of one of these kinds."""
         token = self.token()
         if not is_one_of(token, may_come):
-            raise self.fault("unexpected", expected=may_come)
+            raise self.fault("unexpected", expected=may_come, **facts)
         self.at += len(token)
         return token
 
@@ -119,11 +119,11 @@ class Reader:
         if len(self.text) > 65536:
             raise Fault("refused text toolong 65536", "toolong", 65536)
         self.take("roles")
-        roles = [self.take("NAME"), self.take("NAME")]
+        roles = [self.take("NAME", counts=True), self.take("NAME", counts=True)]
         while len(roles) < 8 and (token := self.take("NAME", ";")) != ";":
             roles.append(token)
         if len(roles) == 8:
-            self.take(";")
+            self.take(";", counts=True)
         body = self.type(1)
         if self.token():
             raise self.fault("trailing")
@@ -174,15 +174,17 @@ def is_one_of(token, may_come):
 
 # --- Faults of the protocol ------------------------------------------------------------------------------------------
 
-def protocol_fault(roles, body):
-    """The first fault of a protocol that was read, or nothing; faults that the reader refuses are left out."""
-    return second("doublerole", roles) or type_fault(roles, body, {})
+def protocol_faults(roles, body):
+    """The faults of a protocol that was read, the first first, of each place one. Those that the reader refuses are left out."""
+    found = {}
+    for fault in (*seconds("doublerole", roles), *type_faults(roles, body, {})):
+        found.setdefault(fault.at, fault)
+    return [*found.values()]
 
 
-def second(kind, names):
-    """The fault of a name that stands twice in a list, at its second place, or nothing."""
-    found = next((at for at, name in enumerate(names) if name in names[:at]), None)
-    return found and named(kind, names[found], first=names[names.index(names[found])])
+def seconds(kind, names):
+    """The faults of names that stand twice in a list, at each further place."""
+    return [named(kind, name, first=names[names.index(name)]) for at, name in enumerate(names) if name in names[:at]]
 
 
 def named(kind, token, **facts):
@@ -190,39 +192,45 @@ def named(kind, token, **facts):
     return Fault(f"refused protocol {kind}", kind, token.at, token=token, **facts)
 
 
-def type_fault(roles, node, loops):
-    """The first fault of the nodes in preorder. `loops` has the `rec`s around, and whether an act came since."""
-    return node_fault(roles, node, loops) or next(filter(None, (
-        type_fault(roles, below, inside) for below, inside in nodes_below(node, loops))), None)
+def type_faults(roles, node, loops):
+    """The faults of the nodes in preorder. `loops` has the `rec`s around, and whether an act came since."""
+    yield from node_faults(roles, node, loops)
+    for below, inside in nodes_below(node, loops):
+        yield from type_faults(roles, below, inside)
 
 
 def nodes_below(node, loops):
     """The nodes right below a node, from the left, each with the `rec`s around it."""
     acted = dict.fromkeys(loops, True)
     if isinstance(node, Rec):
-        return [(node.body, {**loops, node.name: False})]
+        others = {name: has_acted for name, has_acted in loops.items() if name != node.name}
+        return [(node.body, {**others, node.name: False})]
     if isinstance(node, Message):
         return [(node.then, acted)]
     return [(below, acted) for _, below in node.branches] if isinstance(node, Choice) else []
 
 
-def node_fault(roles, node, loops):
-    """The first fault of this node, in the order of the table."""
+def node_faults(roles, node, loops):
+    """The faults of this node, in the order of the table."""
     if isinstance(node, (Message, Choice)):
-        labels = [label for label, _ in node.branches] if isinstance(node, Choice) else []
-        unknown = [name for name in (node.sender, node.receiver) if name not in roles]
-        if unknown:
-            return named("unknownrole", unknown[0], roles=roles)
-        if node.sender == node.receiver:
-            return named("selfmessage", node.receiver)
-        return second("doublelabel", labels) or (named("toomanybranches", labels[16]) if len(labels) > 16 else None)
-    if isinstance(node, Var) and node.name not in loops:
-        return named("unbound", node.name)
-    if isinstance(node, Rec) and node.name in loops:
-        return named("shadowed", node.name, first=outer(node.name, loops))
-    if isinstance(node, Var) and not loops[node.name]:
-        return named("unguarded", node.name, first=outer(node.name, loops))
-    return None
+        yield from act_faults(roles, node)
+    elif isinstance(node, Var) and node.name not in loops:
+        yield named("unbound", node.name)
+    elif isinstance(node, Rec) and node.name in loops:
+        yield named("shadowed", node.name, first=outer(node.name, loops))
+    elif isinstance(node, Var) and not loops[node.name]:
+        yield named("unguarded", node.name, first=outer(node.name, loops))
+
+
+def act_faults(roles, node):
+    """The faults of a message or a choice."""
+    labels = [label for label, _ in node.branches] if isinstance(node, Choice) else []
+    yield from (named("unknownrole", name, roles=roles) for name in (node.sender, node.receiver) if name not in roles)
+    if node.sender == node.receiver:
+        yield named("selfmessage", node.receiver)
+    yield from seconds("doublelabel", labels)
+    if len(labels) > 16:
+        yield named("toomanybranches", labels[16])
 
 
 def outer(name, loops):
@@ -307,18 +315,32 @@ def spelled(node):
     return f"{node.kind} {node.peer} {{ {branches} }}"
 
 
+def projected(role, body):
+    """A role's local type, or the fault of a role that has none: its first choice with branches that can't be merged."""
+    try:
+        return projection(role, body)
+    except Unmerged as found:
+        choices = [node for node in preorder(body) if isinstance(node, Choice)]
+        place = next(place for place, choice in enumerate(choices) if choice is found.choice)
+        return Fault(f"refused projection {role} {place}", "projection", found.choice.sender.at,
+                     role=role, choice=found.choice, branches=(found.first, found.other))
+
+
+def examined(protocol):
+    """Each role's local type, in the order of the roles, and the faults of the protocol, the first first: that of its text, or
+    those of its nodes, or of its roles without a local type. Where there are faults, no types are of use."""
+    try:
+        roles, body = Reader(protocol.decode("latin-1")).protocol()
+    except Fault as fault:
+        return {}, [fault]
+    faults = protocol_faults(roles, body)
+    types = {} if faults else {role: projected(role, body) for role in roles}
+    return types, faults or [it for it in types.values() if isinstance(it, Fault)]
+
+
 def load(protocol):
-    """Each role's local type, in the order of the roles, or the fault of the protocol."""
-    roles, body = Reader(protocol.decode("latin-1")).protocol()
-    fault = protocol_fault(roles, body)
-    if fault:
-        raise fault
-    types, choices = {}, [node for node in preorder(body) if isinstance(node, Choice)]
-    for role in roles:
-        try:
-            types[role] = projection(role, body)
-        except Unmerged as found:
-            place = next(place for place, choice in enumerate(choices) if choice is found.choice)
-            raise Fault(f"refused projection {role} {place}", "projection", found.choice.sender.at,
-                        role=role, choice=found.choice, branches=(found.first, found.other)) from None
+    """Each role's local type, in the order of the roles, or the first fault of the protocol."""
+    types, faults = examined(protocol)
+    if faults:
+        raise faults[0]
     return types
