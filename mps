@@ -14,7 +14,7 @@ note=$here/out/sources
 # Whether the program refuses a protocol among these words, which is then explained to the person at the terminal.
 refuses() {
     [ -t 2 ] || return 1
-    case $1 in -v | --verbose) shift ;; esac
+    while case $1 in -v | --verbose) true ;; *) false ;; esac; do shift; done
     case $1 in check | run | same | serve) shift ;; *) return 1 ;; esac
     for word; do
         [ -f "$word" ] || continue
@@ -35,7 +35,11 @@ more() {
     echo -v
 }
 
-case $1 in
+order=
+for order; do
+    case $order in -v | --verbose) ;; *) break ;; esac
+done
+case $order in
 '' | --help | -h | help | prove | which | install | explain | library) ;;
 *)
     if [ -r "$note" ] && read -r sources <"$note" && { echo "$sources"; "$here/tools/look"; } | cmp -s - "$note"; then

@@ -7,6 +7,8 @@ import re
 import textwrap
 from html import escape
 
+from chains import links
+
 MOST, WIDE, PACE = 200, 1200, 72  # steps, the width of a band, the least from step to step
 ROW, NARROW = 100, 30  # the heights of the row of a role, and of one that does nothing in the band
 DOT, LINE, LETTER = 11, 14, 8  # half a dot, from line to line of a text, from letter to letter
@@ -92,12 +94,12 @@ def read_session(data):
 
 def consequences(session, number):
     """The numbers of the step and of all that depend on it; none where no step is asked for."""
-    found, roles = set(), set()
+    last, later = {}, []
     for step in session.steps:
-        if step.number == number or step.role in roles or session.takes.get(step.number) in found:
-            found.add(step.number)
-            roles.add(step.role)
-    return found
+        if number and step.number > number:
+            later.append((step.number, session.takes.get(step.number), last.get(step.role)))
+        last[step.role] = step.number
+    return {number, *links(number, later)} if number else set()
 
 
 def said(what, most=999):

@@ -21,12 +21,19 @@ mps library DIR                copies the library for programs in C, Rust and Py
 mps --version                  the program's version
 mps --help                     this; mps run --help and the like say what the program's own orders take
 
-After explain, install and library a path that begins with - is given as ./-x.
+After explain, install and library a path that begins with - is given as ./-x. With -v or --verbose, before an order or
+after it, more is told on standard error; where there is no more to tell, as with which, it changes nothing.
 
 The proved program runs where one was built of the sources as they are, else the checked one: the same sources, with a
 check at each step where a proof would have shown that nothing goes wrong. The checked one is built where it is missing,
-which takes about a minute. So it is with the library. mps ends with the program's status, or with 2 where no program can
-be run, or what mps itself writes to standard output can't be written; with 141 where nobody reads that.
+which takes about a minute. So it is with the library.
+
+The exit status of the program, with which mps ends:
+0 all was done    1 two scripts differ, or a strict run met a refusal    2 wrong words, a file or a port that can't be had
+3 the protocol is refused, or a journal's line    4 a device failed, a session was lost, or memory ran out
+explain ends so too, with 1 where a line of the script is refused, 2 where FILE or SCRIPT can't be opened, 3 where the
+protocol is refused, and 4 where one can't be read. mps itself ends with 2 where its words are wrong, no program can be
+run, or what it writes to standard output can't be written, and with 141 where nobody reads that.
 """
 import os
 import signal
@@ -53,6 +60,11 @@ def asks_for_help(words):
     if words[0] in HELP:
         return words[1:] == [] or words[1] in USES
     return words[0] in USES and any(word in HELP[:2] for word in words[1:])
+
+
+def past_verbose(words):
+    """These words without those by which more is told in front of the order."""
+    return words[next((at for at, word in enumerate(words) if word not in VERBOSE), len(words)):]
 
 
 def may_follow(order, words):
@@ -85,7 +97,7 @@ def program_of(sources):
 
 def refused_file(program, words):
     """The file with a protocol among these words, if the program refuses it."""
-    words = words[words[0] in VERBOSE:]
+    words = past_verbose(words)
     file = next((word for word in words[1:] if os.path.isfile(word)), None)
     if file is None or words[0] not in PROGRAMS:
         return None
@@ -126,10 +138,11 @@ def run(program, words):
 
 
 def main():
-    if not sys.argv[1:] or asks_for_help(sys.argv[1:]):
+    order, *words = past_verbose(sys.argv[1:]) or [""]
+    if not sys.argv[1:] or order and asks_for_help([order, *words]):
         (output.write if sys.argv[1:] else output.tell)(__doc__.encode())
         sys.exit(0 if sys.argv[1:] else 2)
-    order, words = sys.argv[1], sys.argv[2:]
+    words = [word for word in words if word not in VERBOSE]
     if order in USES and not may_follow(order, words):
         raise building.Stopped(f"usage: mps {order} {USES[order]}")
     if order in USES and "" in words:

@@ -6,8 +6,8 @@ import os
 import string
 from html import escape
 
+from chains import links, runs
 from drawing import ARROW, DOT, INK, LETTER, PAPER, SHADE, Layout, said, texts
-from story_chains import links, runs
 
 PARTS = os.path.join(os.path.dirname(os.path.realpath(__file__)), "story")
 WIDE, MARGIN = 880, 16  # the width of a band, and what is left free at its right

@@ -5,7 +5,7 @@ The reason for a refusal is the word of the answer; the history says which step 
 import collections
 import re
 
-import story_chains
+import chains
 from drawing import said
 from unreadable import either, listed, unreadable
 
@@ -15,7 +15,7 @@ TAKEN = {"recv": "received what {0} sent", "pick": "picked what {0} chose"}
 
 def steps(numbers):
     """Steps by their numbers, which rise; more than two neighbours by the first and the last."""
-    runs = story_chains.runs(numbers)
+    runs = chains.runs(numbers)
     names = [name for first, last in runs for name in (
         [f"{first} to {last}"] if last > first + 1 else map(str, range(first, last + 1)))]
     return f"step{'s' * (len(numbers) > 1)} {listed(names)}"
@@ -120,7 +120,7 @@ def final(session, role, verb, parts, number):
     first = int(parts[0]) if verb != "back" else first_after(session, role, parts[0])
     if first == number:
         return f"Step {number} is a commit, and nothing takes a commit back."
-    chain = story_chains.chain(session.made, first, number)
+    chain = chains.chain(session.made, first, number)
     which = f"step {first}" + f", {role}'s first after its mark {parts[0]}" * (verb == "back")
     return (f"Step {number} is a commit, which nothing takes back, and it depends on {which}: "
             + ", ".join(link(session.made, *reversed(pair)) for pair in zip(chain, chain[1:])) + ".")

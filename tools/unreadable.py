@@ -1,7 +1,8 @@
 """unreadable: why a line of a script can't be read, and where in the line that is.
 
 It goes through a line from the left, as docs/FORMATS.md has the forms of lines, up to the first part that isn't as it
-should be.
+should be. What is said of it begins with what the program says with -v (crates/mps_program/src/flaws.rt), and goes on after
+a comma or a colon with what only this line has.
 """
 import re
 
@@ -27,6 +28,13 @@ def listed(names):
     return f"{', '.join(most)} and {last}" if most else last
 
 
+ASCII = "all bytes of a line are ASCII, 127 at most"
+A_COMMENT = "it looks like a comment, and a script has none"
+SPACE_AT_END = "it ends with a space"
+TWO_SPACES = "it has two spaces in a row, and between two words is one"
+NO_NUMBERS = "and a script's lines have none"
+
+
 def unreadable(line, roles):
     """The byte of a line from which on it can't be read, and why; nothing where it can be read."""
     return unreadable_bytes(line) or unreadable_words(line.decode("ascii"), roles)
@@ -34,28 +42,32 @@ def unreadable(line, roles):
 
 def unreadable_bytes(line):
     """Of a line that has nothing, too much, or a byte that no line may have."""
-    other = re.search(rb"[^ -~]", line)
-    if not line:
-        return 0, "the line is empty"
-    if line.startswith(MARK):
-        return 0, NO_MARK
-    if COMMENT.match(line[:2].decode("latin-1")):
-        return 0, "this looks like a comment, and a script has none"
     if len(line) > LONGEST:
-        return LONGEST, f"it has {len(line)} bytes, and a line has {LONGEST} at most"
-    return (other.start(), other_byte(line, other.start())) if other else None
+        return LONGEST, f"a line has {LONGEST} bytes at most, and this one has {len(line)}"
+    foreign = re.search(rb"[^\x00-\x7f]", line)
+    if foreign:
+        return foreign.start(), f"{ASCII}: {NO_MARK if line.startswith(MARK) else foreign_byte(line[foreign.start():])}"
+    if not line:
+        return 0, "it is empty"
+    if COMMENT.match(line[:2].decode()):
+        return 0, A_COMMENT
+    control = re.search(rb"[^ -~]", line)
+    return (control.start(), control_byte(line[control.start():])) if control else None
 
 
-def other_byte(line, at):
-    """Of a byte that no line may have."""
-    if line[at:] == b"\r":
-        return "a carriage return stands at its end, and lines end with LF alone, not with CR and LF"
-    if line[at] == 9:
-        return "a tab stands here, and between two words is one space"
-    if line[at] < 0x80:
-        return f"a control character stands here, the byte 0x{line[at]:02X}"
-    letter = re.match(r"\w?", line[at:at + 4].decode(errors="ignore")).group()
-    return f"{f'`{letter}`' if letter else 'a byte over 127'} stands here, and all bytes of a line are ASCII: 127 at most"
+def foreign_byte(rest):
+    """The letter over 127 with which these bytes begin."""
+    letter = re.match(r"\w?", rest[:4].decode(errors="ignore")).group()
+    return f"{f'`{letter}`' if letter else 'another byte'} stands here"
+
+
+def control_byte(rest):
+    """Of the byte with which these begin, which no line may have."""
+    if rest == b"\r":
+        return "it ends with a carriage return, and lines end with LF alone, not with CR and LF"
+    if rest[0] == 9:
+        return "it has a tab, and between two words is one space"
+    return f"it has a control character, the byte 0x{rest[0]:02X}"
 
 
 def unreadable_words(text, roles):
@@ -90,17 +102,17 @@ def wrong_role(text, roles):
     if not word:
         return "it begins with a space, and a line begins with its role"
     if word.isdigit():
-        return "it begins with a number, and a script's lines have none"
+        return f"it begins with a number, {NO_NUMBERS}"
     return f"its first word is no role of the protocol, whose roles are {listed(list(roles))}"
 
 
 def wrong_verb(rest, verb):
     """Of what comes after the role."""
     if rest.startswith(" "):
-        return "two spaces stand here, and between two words is one"
+        return TWO_SPACES
     if verb.isdigit():
-        return "a number stands before the command, and a script's lines have none"
-    return f"after the role comes one of {either(list(FORMS))}" + f", not `{verb}`" * bool(verb)
+        return f"a number stands before the command, {NO_NUMBERS}"
+    return f"after the role comes a command: one of {either(list(FORMS))}" + f", not `{verb}`" * bool(verb)
 
 
 # Each of what follows gives how far into a word, or what stands in its place, something is wrong, and what; or nothing.
@@ -108,13 +120,13 @@ def wrong_verb(rest, verb):
 def wrong_blank(rest):
     """Of a space where a word begins, or of a line that ends there."""
     if not rest.strip(" "):
-        return 0, "a space stands at its end"
-    return (0, "two spaces stand here, and between two words is one") if rest[0] == " " else None
+        return 0, SPACE_AT_END
+    return (0, TWO_SPACES) if rest[0] == " " else None
 
 
 def wrong_peer(word, roles):
     """Of a peer."""
-    return None if word in roles else (0, f"`{word}` is no role of the protocol, whose roles are {listed(list(roles))}")
+    return None if word in roles else (0, f"the peer is no role of the protocol, whose roles are {listed(list(roles))}")
 
 
 def wrong_name(word, _):
@@ -122,19 +134,19 @@ def wrong_name(word, _):
     if is_name(word):
         return None
     if word in RESERVED:
-        return 0, f"`{word}` is a reserved word, which is no name"
+        return 0, f"a reserved word is no name: `{word}` is one"
     if is_name(word[:32]):
-        return 0, "names have 32 letters at most"
-    return 0, f"`{word}` is no name: names are of small letters, digits and `_`, with a letter first"
+        return 0, f"names have 32 letters at most, and this one has {len(word)}"
+    return 0, f"names are of small letters, digits and `_`, with a letter first: `{word}` is none"
 
 
 def wrong_number(word, _):
     """Of a number."""
     if not re.fullmatch("[0-9]+", word):
-        return 0, f"`{word}` is no number: a number has nothing but digits"
+        return 0, f"a number has nothing but digits: `{word}` is none"
     if word != "0" and word.startswith("0"):
-        return 0, f"`{word}` begins with a zero, and no number but 0 does"
-    return (0, f"`{word}` is over the greatest number, {2 ** 64 - 1}") if int(word) >= 2 ** 64 else None
+        return 0, f"no number but 0 begins with a zero: `{word}` does"
+    return (0, f"the greatest number is {2 ** 64 - 1}: `{word}` is over it") if int(word) >= 2 ** 64 else None
 
 
 def wrong_value(rest, _):
@@ -145,34 +157,34 @@ def wrong_value(rest, _):
     if word != rest:
         return after_value(rest, len(word))
     if re.fullmatch("-?0[0-9]+|-0", word):
-        return 0, f"`{word}` begins with a zero, and no int but 0 does"
+        return 0, f"no int but 0 begins with a zero: `{word}` does"
     if re.fullmatch("-?[0-9]+", word):
         is_int = -2 ** 63 <= int(word) < 2 ** 63
-        return None if is_int else (0, f"`{word}` is no int: these go from {-2 ** 63} to {2 ** 63 - 1}")
+        return None if is_int else (0, f"an int is from {-2 ** 63} to {2 ** 63 - 1}: `{word}` isn't")
     if word in ("true", "false"):
         return None
-    return 0, f"`{word}` is no value: that is an int such as -5, `true` or `false`, or a text in double quotes"
+    return 0, f"a value is an int such as -5, `true` or `false`, or a text in double quotes: `{word}` is none"
 
 
 def wrong_text(rest):
     """Of a text, with all that comes after it in the line."""
     inside, end, more = rest[1:].partition('"')
     if "\\" in inside:
-        return 1 + inside.index("\\"), "a `\\` stands in this text, and a text has none"
+        return 1 + inside.index("\\"), "a `\\` stands in the text, and a text has none"
     if not end:
-        return 0, "a `\"` is missing at the end of this text"
+        return 0, "a `\"` is missing at the end of the text"
     if more.endswith('"'):
-        return 1 + len(inside), "a `\"` stands in this text, and a text has none"
+        return 1 + len(inside), "a `\"` stands in the text, and a text has none"
     if more:
         return after_value(rest, 2 + len(inside))
     is_long = len(inside) > LONGEST_TEXT
-    return (0, f"this text has {len(inside)} bytes, and a text has {LONGEST_TEXT} at most") if is_long else None
+    return (0, f"a text has {LONGEST_TEXT} bytes at most, and this one has {len(inside)}") if is_long else None
 
 
 def after_value(rest, at):
     """Of what comes after a value that ends there."""
     more = rest[at:]
-    why = needless(more) or "this comes after the value, and nothing may: a text of several words stands in double quotes"
+    why = needless(more) or "nothing comes after a value: a text of several words stands in double quotes"
     return at + (len(more) - len(more.lstrip(" "))) * bool(more.strip(" ")), why
 
 
@@ -184,8 +196,8 @@ def wrong_end(rest, verb):
 def needless(rest):
     """What is wrong with a space at the end, or with a comment."""
     if not rest.strip(" "):
-        return "a space stands at its end"
-    return "this looks like a comment, and a script has none" if COMMENT.match(rest.strip(" ")) else None
+        return SPACE_AT_END
+    return A_COMMENT if COMMENT.match(rest.strip(" ")) else None
 
 
 WRONG = {"PEER": wrong_peer, "SLOT": wrong_name, "LABEL": wrong_name, "NAME": wrong_name, "NUMBER": wrong_number,

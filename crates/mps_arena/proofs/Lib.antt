@@ -1,3 +1,4 @@
+-- The lemmas of mps_arena, a file each; other crates may use those with `pub`.
 pub mod KeyLists
 pub mod Chains
 pub mod Matched

@@ -18,8 +18,8 @@ length_of (Err why) = no_length
 abbrev pub IsFilledOrLeft : (IsText : List ℕ → Type 0) → (old new : List ℕ) → (count : ℕ) → Type 0
 IsFilledOrLeft IsText old new count = IsFilled IsText old new count ⊎ ((count ≡ no_length) × (new ≡ old))
 
--- there is a new room of the protocol that the text spells; or there is none, and the number and the place are those
--- of the text's fault
+-- there is a new room of the protocol that the text spells, which the pointer is said to own in no clause; or there is
+-- none, and the number and the place are those of the text's fault
 abbrev pub Opens : (text : List ℕ) → (opened : Bool) → (number place : ℕ) → Type 0
 Opens text true number place = (room : EmbeddedState) × IsNewRoomOf text room
 Opens text false number place =

@@ -1,3 +1,4 @@
+-- The lemmas of mps_cell, a file each; other crates may use those with `pub`.
 pub mod Lists
 pub mod Keeping
 pub mod Taking

@@ -2,7 +2,8 @@
 
 use crate::pass::Pass;
 use mps_base::Roles;
-use mps_room::{Answer, Caller, Command, Position, Told};
+use mps_command::Refusal;
+use mps_room::{Answer, Caller, Command};
 use std::sync::Wait;
 
 /// A pass, with what it waits by.
@@ -14,7 +15,7 @@ pub struct Held<'r, 'a, R: Wait> {
 
 impl<'r, 'a, R: Wait> Caller for Held<'r, 'a, R> {
     ghost use Rattle.std.proofs.Common.{ap, true};
-    ghost use Rattle.mps_room.specs.Numbers.{last_of, kept_of};
+    ghost use Rattle.mps_room.specs.Numbers.{last_of, kept_of, keeps_newest};
     ghost use Rattle.mps_cell.specs.Openings.{Opening};
     ghost use Rattle.mps_cell.specs.Calls.{Calls, calls_grow};
 
@@ -48,17 +49,12 @@ impl<'r, 'a, R: Wait> Caller for Held<'r, 'a, R> {
         self.pass.numbers().kept()
     }
 
-    fn call_numbered(&mut self, number: u64, command: Command) -> Told {
-        match self.pass.numbers().position(number) {
-            Position::Last => return Told::Kept,
-            Position::Elsewhere => return Told::Wrong,
-            Position::Next => {}
-        }
+    fn call_next(&mut self, number: u64, command: Command) -> Result<(), Refusal> {
         match self.pass.call(self.rt, command) {
-            Answer::Refused(refusal) => Told::Refused(refusal),
+            Answer::Refused(refusal) => Err(refusal),
             answer => {
                 self.pass.keep(number, answer);
-                Told::Fresh
+                Ok(())
             }
         }
     }
@@ -66,6 +62,8 @@ impl<'r, 'a, R: Wait> Caller for Held<'r, 'a, R> {
     fn may_tell(&self) -> bool {
         true
     }
+
+    ghost keeps = { λ h some. keeps_newest h.pass.newest some };
 
     ghost same_names = { λ h c a k t. ap (λ (o : Opening). o.names) t.pass.opening };
 

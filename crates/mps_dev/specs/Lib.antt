@@ -1,4 +1,5 @@
 pub mod Calls
 pub mod Pieces
+pub mod Reads
 pub mod Short
 pub mod Standard

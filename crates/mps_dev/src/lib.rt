@@ -17,3 +17,6 @@ mod traits;
 pub use memory::{Discard, Pieces, Short};
 pub use standard::{OverRead, OverWrite};
 pub use traits::{Failed, Sink, Source};
+
+/// How often a source is read from at most: for a script, a conversation, a first line and a journal.
+pub const MAX_READS: u64 = 1_000_000;

@@ -1,3 +1,4 @@
+-- The lemmas of mps_embed, a file each.
 mod Places
 mod Speaking
 mod Crossing

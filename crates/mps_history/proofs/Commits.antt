@@ -26,7 +26,7 @@ module _ (h : List Step) (set : ℕ → Bool) (closed : IsClosed h set) where
   earlier_stays : (t s : Step) → IsIn t h → IsIn s h → set t.id ≡ false → depends_on h t s ≡ true → set s.id ≡ false
   earlier_stays t s it is stays d = false_from_ne_true (set s.id) (λ m. false≢true (sym stays ∙ closed t s it is m d))
 
-  link_stays : (t s : Step) → IsIn t h → IsIn s h → set t.id ≡ false → set s.id ≡ false → depends_on (without h set) t s ≡ depends_on h t s
+  pub link_stays : (t s : Step) → IsIn t h → IsIn s h → set t.id ≡ false → set s.id ≡ false → depends_on (without h set) t s ≡ depends_on h t s
   link_stays t s it is t_stays s_stays = grind (arith, filter-filter, from_members, and_parts, not_from_false, false_from_ne_true, false≢true, and_from, or_left)
 
   -- so dependence of a step that stays does

@@ -3,3 +3,4 @@ pub mod Dependence
 pub mod Swaps
 pub mod Slots
 pub mod Commits
+pub mod Removals

@@ -6,10 +6,11 @@
 //! steps out. The crates above prove their code against these.
 #![tactic(auto)]
 
-ghost use Rattle.std.specs.Prelude.{◌≡◌, ◌↔◌, ◌⊎◌, ℕ, ◌<◌, ◌==◌, List, [], ◌∷◌, ◌++◌, Some, IsTrue};
+ghost use Rattle.std.specs.Prelude.{◌≡◌, ◌↔◌, ◌⊎◌, ℕ, ◌<◌, ◌==◌, Bool, List, [], ◌∷◌, ◌++◌, Some, IsTrue};
 ghost use Rattle.mps_base.specs.declared.action.Step.{Step};
 ghost use Rattle.mps_history.specs.Steps.{IsIn, IsRising, step_of, within, without};
 ghost use Rattle.mps_history.specs.Dependence.{DependsOn, IsClosed, consequences, is_matched};
+ghost use Rattle.mps_history.specs.Removals.{without_future, both_futures};
 ghost use Rattle.mps_history.specs.Swaps.{is_matched_after};
 
 /// In a history whose numbers rise, a step is found by its number, and only a step that has the number.
@@ -38,6 +39,24 @@ pub fn a_last_step_is_alone()
         within (h ++ s ∷ []) (consequences (h ++ s ∷ []) s.id) ≡ s ∷ [] }
     ensures removed { (h : List Step) (s : Step) → IsRising (h ++ s ∷ []) →
         without (h ++ s ∷ []) (λ m. m == s.id) ≡ h }
+{}
+
+/// The consequences of a step are the least closed set with it.
+pub fn consequences_are_least()
+    ensures { (h : List Step) (n : ℕ) (set : ℕ → Bool) (t : Step)
+        → IsClosed h set → IsTrue (set n) → IsIn t h → IsTrue (consequences h n t.id) → IsTrue (set t.id) }
+{}
+
+/// Of two removals, each of a step with all that depends on it, either may come first: the history without both is
+/// left (confluence of rollbacks). Where the second step is among the consequences of the first, its removal has
+/// nothing left to do.
+pub fn removals_commute()
+    ensures both { (h : List Step) (m n : ℕ) → IsRising h
+        → without_future (without_future h m) n ≡ without h (both_futures h m n) }
+    ensures either_order { (h : List Step) (m n : ℕ) → IsRising h
+        → without_future (without_future h m) n ≡ without_future (without_future h n) m }
+    ensures nothing_left { (h : List Step) (m n : ℕ) → IsRising h → IsTrue (consequences h m n)
+        → without_future (without_future h m) n ≡ without_future h m }
 {}
 
 /// In a history whose numbers rise, a receipt is matched with the send right before it, by their numbers, exactly

@@ -6,7 +6,8 @@ use Rattle.std.proofs.lemmas.List.{length-take}
 use Rattle.mps_dev.specs.declared.traits.Source.{Ghosts}
 use Rattle.mps_lines.specs.Lines.{front, max_line, most_kept}
 use Rattle.mps_lines.proofs.Splitting.{AllByRecursion-append, front_front, front_short}
-use Rattle.mps_hub.specs.First.{GaveBytes, HasStopped, HasGoneOn, HasNoFirstLine, IsFirstLine, IsJoin, max_reads}
+use Rattle.mps_dev.specs.Reads.{max_reads}
+use Rattle.mps_hub.specs.First.{GaveBytes, HasStopped, HasGoneOn, HasNoFirstLine, IsFirstLine, IsJoin}
 use Rattle.mps_hub.specs.Private.First.{IsBegun}
 
 -- what is kept is short

@@ -1,3 +1,4 @@
+-- The lemmas of mps_hub, a file each; other crates may use those with `pub`.
 pub mod Bytewise
 pub mod Shutting
 pub mod Locking
@@ -6,4 +7,4 @@ pub mod Cells
 pub mod Crossing
 pub mod Telling
 pub mod Placing
-pub mod Serving
+pub mod Unserved

@@ -1,13 +1,10 @@
 -- The first line of a connection.
 use Rattle.std.specs.Prelude.{◌≡◌, ℕ, ◌+◌, ◌≤◌, ◌⊎◌, List, length}
 use Rattle.std.specs.Io.KnownBytes.{Consumes, IsAtEnd}
+use Rattle.mps_dev.specs.Reads.{max_reads}
 use Rattle.mps_dev.specs.declared.traits.Source.{Ghosts}
 use Rattle.mps_line.specs.Replies.{SpellsJoin}
 use Rattle.mps_lines.specs.Lines.{HasNoBreak, ended, front, max_line}
-
--- how often a first line is read from at most
-abbrev pub max_reads : ℕ
-max_reads = 1000000
 
 -- What a reader gave, from the one state of it to the other.
 module _ {R : Type 0} (source : Ghosts R) (old new : R) where

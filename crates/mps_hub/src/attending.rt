@@ -3,8 +3,6 @@ ghost use Rattle.std.specs.Prelude.{◌≡◌, ◌≢◌, ◌<◌, ◌^◌, ℕ,
 ghost use Rattle.mps_line.specs.Codes.{code_of};
 ghost use Rattle.mps_line.specs.Replies.{SpellsReply};
 ghost use Rattle.mps_lines.specs.Lines.{ended};
-ghost use Rattle.mps_wire.specs.declared.conversation.Broken.TheVariants.{Memory as NoMemory, Write as NotWritten};
-ghost use Rattle.mps_wire.specs.declared.conversation.Broken.TheVariants.{Untold as NeverSaid};
 ghost use Rattle.mps_hub.specs.Connections.{HasAttended, EndsForNoLoss, RepliesToFirst, SendingBrokeOff, WasSent};
 ghost use Rattle.mps_keeper.specs.Holds.{records_of, whole_of};
 ghost use Rattle.mps_hub.specs.Private.Connections.{CameOfJoining, IsAnsweredFirst};
@@ -13,17 +11,16 @@ ghost use Rattle.mps_hub.specs.Places.{IsPassOf};
 
 use crate::desk::{Desk, JoinFault};
 use crate::first::{asked_for, first_line};
-use crate::gates::{Gate, Gated};
 use mps_base::Name;
 use mps_cell::{Held, Pass};
-use mps_dev::{Failed, Sink, Source};
-use mps_keeper::{Disk, Hold, Keeper, LONGEST_LINE, Recorded};
+use mps_dev::{Discard, Failed, Sink, Source};
+use mps_keeper::{Disk, Gate, Guest, Hold, Keeper, LONGEST_LINE};
 use mps_line::Reply;
 use mps_room::Caller;
-use mps_wire::conversation::Broken;
 use mps_wire::sending::send_all;
 use mps_wire::{Ending, converse};
 use std::alloc::{AllocError, Global};
+use std::fs::File;
 use std::sync::Wait;
 
 /// How a connection ended.
@@ -41,6 +38,13 @@ pub enum Attended {
     Unrecorded,
 }
 
+// Why a reply was not sent.
+#[derive(Clone, Copy, PartialEq, Eq)]
+enum Unsent {
+    Write,
+    Memory,
+}
+
 // The text of the reply, with its LF.
 fn text_of(alloc: Global, reply: &Reply) -> Result<Vec<u8>, AllocError>
     ensures { IfOk result (λ text. (words : List ℕ) × SpellsReply words reply.now × (text.items ≡ ended words)) }
@@ -52,17 +56,18 @@ fn text_of(alloc: Global, reply: &Reply) -> Result<Vec<u8>, AllocError>
 }
 
 // Writes the reply with its LF. Where memory runs out nothing is written.
-fn send<W: Sink>(alloc: Global, writer: &mut W, reply: &Reply) -> Result<(), Broken>
+fn send<W: Sink>(alloc: Global, writer: &mut W, reply: &Reply) -> Result<(), Unsent>
     requires { W.failed_calls writer.old < 2 ^ 62 }
     ensures sent { OnOk result (WasSent W.Sink writer.old writer.new reply.now) }
-    ensures broken_off { result ≡ Err NotWritten → SendingBrokeOff W.Sink writer.old writer.new reply.now }
-    ensures memory { result ≡ Err NoMemory → writer.new ≡ writer.old }
-    ensures only { result ≢ Err NeverSaid }
+    ensures broken_off { result ≡ Err Unsent.Write → SendingBrokeOff W.Sink writer.old writer.new reply.now }
+    ensures memory { result ≡ Err Unsent.Memory → writer.new ≡ writer.old }
 {
-    let text = text_of(alloc, reply)?;
+    let Ok(text) = text_of(alloc, reply) else {
+        return Err(Unsent::Memory);
+    };
     match send_all(writer, text.as_slice()) {
         Ok(()) => Ok(()),
-        Err(Failed) => Err(Broken::Write),
+        Err(Failed) => Err(Unsent::Write),
     }
 }
 
@@ -74,9 +79,8 @@ fn refuse<W: Sink>(alloc: Global, writer: &mut W, reply: &Reply) -> Attended
 {
     match send(alloc, writer, reply) {
         Ok(()) => Attended::TurnedAway,
-        Err(Broken::Write) => Attended::TurnedAway,
-        Err(Broken::Untold) => unreachable!(),
-        Err(Broken::Memory) => Attended::Memory,
+        Err(Unsent::Write) => Attended::TurnedAway,
+        Err(Unsent::Memory) => Attended::Memory,
     }
 }
 
@@ -110,32 +114,13 @@ fn admit<'a, H: Wait>(rt: &H, desk: &Desk<'a>, kept: &[u8]) -> Result<Admitted<'
     }
 }
 
-// The keeper at that place, where there is one.
-fn keeper_at<S: Sink, D>(keepers: &[Keeper<S, D>], place: u64) -> Option<&Keeper<S, D>>
-    ensures { length keepers.now ≡ 0 → result ≡ None }
-{
-    keepers.get(place as usize)
-}
-
-// Space for the lines that are recorded.
-fn line_space<S: Sink, D>(alloc: Global, keepers: &[Keeper<S, D>]) -> Result<Vec<u8>, AllocError> {
-    if keepers.is_empty() {
-        Ok(Vec::new(alloc))
-    } else {
-        Vec::with_capacity(alloc, LONGEST_LINE)
-    }
-}
-
-/// A role's pass in a connection: each command that comes passes the gate, and where it is accepted it is recorded.
-pub type Guest<'k, 'g, 'r, 'a, G, H, S, D> = Recorded<
-    Hold<'k, H, S, D>,
-    Gated<'g, G, Held<'r, 'a, H>>,
->;
+/// A role's pass in a connection.
+pub type PassGuest<'g, 'k, 'r, 'a, G, H, S, D> = Guest<'g, G, Hold<'k, H, S, D>, Held<'r, 'a, H>>;
 
 // Says that it joined, and converses. The pass stays one of its cell.
 fn converse_joined<
-    'k,
     'g,
+    'k,
     'r,
     'a,
     G: Gate + 'static,
@@ -146,16 +131,16 @@ fn converse_joined<
     W: Sink,
 >(
     alloc: Global,
-    caller: &mut Guest<'k, 'g, 'r, 'a, G, H, S, D>,
+    caller: &mut PassGuest<'g, 'k, 'r, 'a, G, H, S, D>,
     joined: &Reply,
     reader: &mut R,
     writer: &mut W,
 ) -> Attended
     requires reads { R.calls reader.old < 2 ^ 62 }
     requires writes { W.failed_calls writer.old < 2 ^ 61 }
-    ensures cell { caller.new.inner.inner.pass.cell ≡ caller.old.inner.inner.pass.cell }
-    ensures opening { caller.new.inner.inner.pass.opening ≡ caller.old.inner.inner.pass.opening }
-    ensures conversed { CameOfJoining ⟦<Guest<'static, 'static, 'static, 'static, G, H, S, D> as Caller>⟧
+    ensures cell { caller.new.inner.pass.cell ≡ caller.old.inner.pass.cell }
+    ensures opening { caller.new.inner.pass.opening ≡ caller.old.inner.pass.opening }
+    ensures conversed { CameOfJoining ⟦<PassGuest<'static, 'static, 'static, 'static, G, H, S, D> as Caller>⟧
         R.Source W.Sink joined.now caller.old reader.old writer.old caller.new reader.new writer.new result }
     ensures told { records_of caller.old.recorder ≡ false → whole_of caller.old.recorder ≡ true → EndsForNoLoss result }
 {
@@ -164,71 +149,119 @@ fn converse_joined<
     }
     match send(alloc, writer, joined) {
         Ok(()) => Attended::Conversed(converse(alloc, caller, reader, writer)),
-        Err(Broken::Write) => Attended::TurnedAway,
-        Err(Broken::Untold) => unreachable!(),
-        Err(Broken::Memory) => Attended::Memory,
+        Err(Unsent::Write) => Attended::TurnedAway,
+        Err(Unsent::Memory) => Attended::Memory,
     }
 }
 
-/// Attends to one connection: to its first line and, where that joins, to its conversation. The pass goes back to the
-/// desk then, however the conversation ended.
-///
-/// The first line is `join SESSION ROLE`, of 512 bytes at most. The gate runs before each command; `connection` is the
-/// number that it is told. What the commands of the K-th session change is recorded by the K-th of the keepers, where
-/// there is one, and nothing is answered that isn't recorded. Where memory runs out over the first line, nothing is
-/// answered.
-pub fn attend<
-    H: Wait + 'static,
-    G: Gate + 'static,
-    S: Sink + 'static,
-    D: Disk + 'static,
-    R: Source,
-    W: Sink,
->(
-    rt: &H,
-    alloc: Global,
-    desk: &Desk<'_>,
-    gate: &G,
-    keepers: &[Keeper<S, D>],
-    connection: u64,
-    reader: &mut R,
-    writer: &mut W,
-) -> Attended
-    requires reads { R.calls reader.old < 2 ^ 61 }
-    requires writes { W.failed_calls writer.old < 2 ^ 61 }
-    ensures attended { HasAttended ⟦<Guest<'static, 'static, 'static, 'static, G, H, S, D> as Caller>⟧
-        (λ c. c.inner.inner.pass)
-        R.Source W.Sink desk.now reader.old writer.old reader.new writer.new result }
-    ensures told { length keepers.now ≡ 0 → EndsForNoLoss result }
+/// What the connections of a server share.
+#[derive(Drop)]
+pub struct Serving<'s, 'd, H, G, S: Sink, D> {
+    pub rt: &'s H,
+    pub alloc: Global,
+    /// The passes that are not in use.
+    pub desk: &'s Desk<'d>,
+    /// What runs before each command.
+    pub gate: &'s G,
+    /// What records the sessions, in their order: all of them, the first of them, or none.
+    pub keepers: &'s [Keeper<S, D>],
+}
+
+// No keepers.
+fn no_keepers() -> &'static [Keeper<Discard, File>]
+    ensures { length result.now ≡ 0 }
 {
-    let Ok(line) = line_space(alloc, keepers) else {
-        return Attended::Memory;
-    };
-    let first = match first_line(alloc, reader) {
-        Ok(Some(first)) => first,
-        Ok(None) => return Attended::NoLine,
-        Err(_) => return Attended::Memory,
-    };
-    match admit(rt, desk, first.as_slice()) {
-        Ok(admitted) => {
-            let Admitted {
-                session,
-                name,
-                pass,
-            } = admitted;
-            let gated = Gated {
-                gate,
-                connection,
-                commands: 0,
-                inner: Held { rt, pass },
-            };
-            let hold = Hold::new(rt, keeper_at(keepers, session - desk.first()));
-            let mut caller = Recorded::new(hold, gated, line);
-            let joined = Reply::Joined { session, name };
-            let ended = converse_joined(alloc, &mut caller, &joined, reader, writer);
-            desk.give(rt, session, caller.inner.inner.pass);
-            ended
+    &[]
+}
+
+impl<'s, 'd, H, G> Serving<'s, 'd, H, G, Discard, File> {
+    /// Of sessions that aren't recorded.
+    pub fn unrecorded(
+        rt: &'s H,
+        alloc: Global,
+        desk: &'s Desk<'d>,
+        gate: &'s G,
+    ) -> Serving<'s, 'd, H, G, Discard, File>
+        ensures desk { result.desk.now ≡ desk.now }
+        ensures none { length result.keepers.now ≡ 0 }
+    {
+        Serving {
+            rt,
+            alloc,
+            desk,
+            gate,
+            keepers: no_keepers(),
         }
-        Err(reply) => refuse(alloc, writer, &reply),
+    }
+}
+
+impl<'s, 'd, H: Wait + 'static, G: Gate + 'static, S: Sink + 'static, D: Disk + 'static> Serving<
+    's,
+    'd,
+    H,
+    G,
+    S,
+    D,
+> {
+    // The keeper of that session, where it has one.
+    fn keeper_of(&self, session: u64) -> Option<&'s Keeper<S, D>>
+        ensures { length self.now.keepers.now ≡ 0 → result ≡ None }
+    {
+        self.keepers.get(self.desk.place_of(session)?)
+    }
+
+    // Space for the lines that are recorded.
+    fn line_space(&self) -> Result<Vec<u8>, AllocError> {
+        if self.keepers.is_empty() {
+            Ok(Vec::new(self.alloc))
+        } else {
+            Vec::with_capacity(self.alloc, LONGEST_LINE)
+        }
+    }
+
+    /// Attends to one connection: to its first line and, where that joins, to its conversation. The pass goes back to
+    /// the desk then, however the conversation ended.
+    ///
+    /// The first line is `join SESSION ROLE`, of 512 bytes at most. The gate runs before each command; `connection` is
+    /// the number that it is told. What the commands change is recorded by the session's keeper, where it has one, and
+    /// nothing is answered that isn't recorded. Where memory runs out over the first line, nothing is answered.
+    pub fn attend<R: Source, W: Sink>(
+        &self,
+        connection: u64,
+        reader: &mut R,
+        writer: &mut W,
+    ) -> Attended
+        requires reads { R.calls reader.old < 2 ^ 61 }
+        requires writes { W.failed_calls writer.old < 2 ^ 61 }
+        ensures attended { HasAttended ⟦<PassGuest<'static, 'static, 'static, 'static, G, H, S, D> as Caller>⟧
+            (λ c. c.inner.pass)
+            R.Source W.Sink self.now.desk.now reader.old writer.old reader.new writer.new result }
+        ensures told { length self.now.keepers.now ≡ 0 → EndsForNoLoss result }
+    {
+        let Ok(line) = self.line_space() else {
+            return Attended::Memory;
+        };
+        let first = match first_line(self.alloc, reader) {
+            Ok(Some(first)) => first,
+            Ok(None) => return Attended::NoLine,
+            Err(_) => return Attended::Memory,
+        };
+        match admit(self.rt, self.desk, first.as_slice()) {
+            Ok(admitted) => {
+                let Admitted {
+                    session,
+                    name,
+                    pass,
+                } = admitted;
+                let rt = self.rt;
+                let hold = Hold::new(rt, self.keeper_of(session));
+                let mut guest = Guest::new(self.gate, connection, hold, Held { rt, pass }, line);
+                let joined = Reply::Joined { session, name };
+                let ended = converse_joined(self.alloc, &mut guest, &joined, reader, writer);
+                self.desk.give(rt, session, guest.inner.pass);
+                ended
+            }
+            Err(reply) => refuse(self.alloc, writer, &reply),
+        }
     }
 }

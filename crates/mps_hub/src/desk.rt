@@ -1,5 +1,5 @@
 //! The passes that are not in use, which one thread at a time has.
-ghost use Rattle.std.specs.Prelude.{◌≡◌, ◌≢◌, ◌+◌, ◌<◌, ◌≤◌, ◌^◌, ◌↔◌, Some, None, IfOk, IfSome, IsErrOf, All, length};
+ghost use Rattle.std.specs.Prelude.{◌≡◌, ◌≢◌, ◌+◌, ◌<◌, ◌≤◌, ◌^◌, ◌↔◌, Some, None, IfOk, IfSome, IsNone, IsErrOf, All, length};
 ghost use Rattle.std.specs.Prelude.{slice_set};
 ghost use Rattle.mps_hub.specs.Places.{IsAtPlace, IsOfCell, IsOfSession, HasSuchRole, IsPassOf, IsSession, Offer};
 ghost use Rattle.mps_hub.specs.Private.Places.{AreNumbered, AtHome};
@@ -200,6 +200,18 @@ impl<'a> Desk<'a> {
         self.first
     }
 
+    /// The place of the session of that number, if there is one.
+    pub fn place_of(&self, session: u64) -> Option<usize>
+        ensures some { IfSome result (λ place. place < length self.now.cells) }
+        ensures place { IfSome result (λ place. session ≡ self.now.first + place) }
+        ensures none { IsNone result ↔ ¬ IsSession self.now.first (length self.now.cells) session }
+    {
+        if session < self.first || session - self.first >= self.sessions {
+            return None;
+        }
+        Some((session - self.first) as usize)
+    }
+
     // Takes the pass of that session and role, if it is there.
     pub(crate) fn take_role<R: Wait>(&self, rt: &R, session: u64, role: usize) -> Option<Pass<'a>>
         requires { IsSession self.now.first (length self.now.cells) session }
@@ -224,7 +236,7 @@ impl<'a> Desk<'a> {
             × All (λ other. other ≢ name.now) self.now.names) }
         ensures taken { IsErrOf result JoinFault.Taken → HasSuchRole self.now session name.now }
     {
-        if session < self.first || session - self.first >= self.sessions {
+        if self.place_of(session).is_none() {
             return Err(JoinFault::NoSession);
         }
         let Some(role) = self.names.find(name) else {

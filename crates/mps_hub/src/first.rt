@@ -1,16 +1,14 @@
 //! The first line of a connection.
 ghost use Rattle.std.specs.Prelude.{◌≡◌, ◌+◌, ◌<◌, ◌≤◌, ◌^◌, ◌∷◌, [], ℕ, IfOk, IfSome, IfNone};
 ghost use Rattle.std.specs.Io.KnownBytes.{Consumes};
-ghost use Rattle.mps_hub.specs.First.{HasStopped, HasNoFirstLine, IsFirstLine, IsJoin, max_reads};
+ghost use Rattle.mps_dev.specs.Reads.{max_reads};
+ghost use Rattle.mps_hub.specs.First.{HasStopped, HasNoFirstLine, IsFirstLine, IsJoin};
 
 use mps_base::Name;
-use mps_dev::Source;
+use mps_dev::{MAX_READS, Source};
 use mps_line::{LineFault, read_join};
 use mps_lines::{MAX_LINE, keep};
 use std::alloc::{AllocError, Global};
-
-/// How often a first line is read from at most.
-pub const MAX_READS: u64 = 1_000_000;
 
 // Reads one byte. None says that the read failed, or that the reader came to its end.
 fn read_byte<R: Source>(reader: &mut R) -> Option<u8>

@@ -13,7 +13,6 @@
 pub mod attending;
 pub mod desk;
 pub mod first;
-pub mod gates;
 pub mod laws;
 mod limits;
 mod lobby;
@@ -23,12 +22,11 @@ pub mod restoring;
 pub mod server;
 pub mod sessions;
 
-pub use attending::{Attended, Guest, attend};
+pub use attending::{Attended, PassGuest, Serving};
 pub use desk::{Desk, JoinFault};
-pub use gates::{Gate, Gated, Unguarded};
 pub use limits::Limits;
 pub use lobby::MAX_OPEN;
+pub use mps_keeper::{Gate, RestoreFault, Unguarded};
 pub use patience::FIRST_LINE;
-pub use restoring::SessionFault;
-pub use server::{ServeFault, Served, no_keepers, serve, serve_recorded, serve_with};
+pub use server::{ServeFault, Served, serve, serve_recorded, serve_with};
 pub use sessions::{Hub, HubDeal};

@@ -53,11 +53,11 @@ pub(crate) fn moment_after<R: Clock>(clock: &R, time: Duration) -> Option<Instan
 
 /// A connection's stream, to be written to. A write that a signal interrupts is tried again, as a read is.
 #[derive(Clone, Copy)]
-pub(crate) struct Steady<'s> {
+pub(crate) struct RetryingWriter<'s> {
     pub(crate) stream: &'s TcpStream,
 }
 
-impl Write for Steady<'_> {
+impl Write for RetryingWriter<'_> {
     fn write(&mut self, buf: &[u8]) -> io::Result<usize> {
         let mut stream = self.stream;
         for _ in 0..INTERRUPTS {
@@ -78,14 +78,14 @@ impl Write for Steady<'_> {
 /// A connection's stream. Its first line has to have come by a moment, where there is one; after it each read waits as
 /// long as the connection may be idle.
 #[derive(Drop)]
-pub(crate) struct Patient<'s, R> {
+pub(crate) struct TimedReader<'s, R> {
     clock: &'s R,
     stream: &'s TcpStream,
     until: Option<Instant>,
     idle: Option<Duration>,
 }
 
-impl<'s, R: Clock> Patient<'s, R> {
+impl<'s, R: Clock> TimedReader<'s, R> {
     // Waits so long for the first line, and then so long at each read; without an end, where it isn't said how long.
     // None where the system can't do so.
     pub(crate) fn new(
@@ -93,14 +93,14 @@ impl<'s, R: Clock> Patient<'s, R> {
         stream: &'s TcpStream,
         first: Option<Duration>,
         idle: Option<Duration>,
-    ) -> Option<Patient<'s, R>> {
+    ) -> Option<TimedReader<'s, R>> {
         stream.set_read_timeout(idle).ok()?;
         stream.set_write_timeout(idle).ok()?;
         let until = match first {
             Some(first) => Some(moment_after(clock, first)?),
             None => None,
         };
-        Some(Patient {
+        Some(TimedReader {
             clock,
             stream,
             until,
@@ -109,7 +109,7 @@ impl<'s, R: Clock> Patient<'s, R> {
     }
 }
 
-impl<R: Clock> Read for Patient<'_, R> {
+impl<R: Clock> Read for TimedReader<'_, R> {
     fn read(&mut self, buf: &mut [u8]) -> io::Result<usize> {
         let stream = self.stream;
         let Some(until) = self.until else {

@@ -1,41 +1,16 @@
 //! Sessions that go on from where a recorded journal left them.
 ghost use Rattle.std.specs.Prelude.{◌≡◌, ◌<◌, ◌^◌, ℕ, Err, IfErr, IfOk, length, slice_get, Some};
 ghost use Rattle.mps_cell.specs.declared.held.Held.{Held as HeldOf};
-ghost use Rattle.mps_keeper.specs.declared.restore.RestoreFault.TheVariants.{Line as AtLine};
-ghost use Rattle.mps_keeper.specs.declared.restore.Unaccepted.{Unaccepted as UnacceptedAs};
 ghost use Rattle.mps_hub.specs.Places.{IsOfSession, IsSession};
-ghost use Rattle.mps_hub.specs.Restoring.{AreInPlace, HasRestored, HasFaulted, IsNoJournal};
-ghost use Rattle.mps_hub.specs.declared.restoring.SessionFault.TheVariants.{Journal as InJournal};
+ghost use Rattle.mps_hub.specs.Restoring.{AreInPlace, CantRestore, HasRestored, IsNoJournal};
 
 use crate::desk::Desk;
 use mps_cell::Held;
 use mps_dev::Source;
 use mps_keeper::{RestoreFault, Restored, restore_from};
 use mps_room::Caller;
-use std::alloc::{AllocError, Global};
+use std::alloc::Global;
 use std::sync::Wait;
-use thiserror::Error;
-
-/// Why a session was not restored.
-#[derive(Clone, Copy, Debug, PartialEq, Eq, Error)]
-pub enum SessionFault {
-    #[error("a pass of it is in use")]
-    Taken,
-    #[error("out of memory")]
-    Memory,
-    #[error("its journal: {0}")]
-    Journal(RestoreFault),
-}
-
-impl From<AllocError> for SessionFault {
-    ghost use Rattle.mps_hub.specs.declared.restoring.SessionFault.TheVariants.{Memory as OutOfMemory};
-
-    ghost from_gives = { λ _ fault. fault ≡ OutOfMemory };
-
-    fn from(_: AllocError) -> SessionFault {
-        SessionFault::Memory
-    }
-}
 
 impl<'a> Desk<'a> {
     // The passes of a session, each at its role.
@@ -44,7 +19,7 @@ impl<'a> Desk<'a> {
         rt: &'r R,
         alloc: Global,
         session: u64,
-    ) -> Result<Vec<Held<'r, 'a, R>>, SessionFault>
+    ) -> Result<Vec<Held<'r, 'a, R>>, RestoreFault>
         requires { IsSession self.now.first (length self.now.cells) session }
         ensures count { IfOk result (λ passes. length passes.items ≡ length self.now.names) }
         ensures in_place { IfOk result (λ passes. AreInPlace self.now session (λ h. h.pass) passes.items) }
@@ -55,7 +30,7 @@ impl<'a> Desk<'a> {
         for role in 0..roles {
             match self.take_role(rt, session, role) {
                 Some(pass) => passes.push_reserved(Held { rt, pass }),
-                None => return Err(SessionFault::Taken),
+                None => return Err(RestoreFault::Taken),
             }
         }
         Ok(passes)
@@ -79,27 +54,19 @@ impl<'a> Desk<'a> {
         alloc: Global,
         session: u64,
         reader: &mut S,
-    ) -> Result<Restored, SessionFault>
+    ) -> Result<Restored, RestoreFault>
         requires session { IsSession self.now.first (length self.now.cells) session }
         requires reads { S.calls reader.old < 2 ^ 62 }
         ensures ok { IfOk result
             (λ r. HasRestored ⟦<Held<'static, 'static, R> as Caller>⟧ (λ h. h.pass) S.Source self.now session
             reader.old reader.new r.lines r.bytes) }
-        ensures fault { (line : ℕ) (why : UnacceptedAs)
-            → result ≡ Err (InJournal (AtLine (record { line = line; fault = why })))
-            → HasFaulted ⟦<Held<'static, 'static, R> as Caller>⟧ (λ h. h.pass) S.Source self.now session
-            reader.old reader.new line why }
+        ensures fault { IfErr result
+            (CantRestore ⟦<Held<'static, 'static, R> as Caller>⟧ (λ h. h.pass) S.Source self.now session
+            reader.old reader.new) }
     {
-        let mut passes = match self.take_all(rt, alloc, session) {
-            Ok(passes) => passes,
-            Err(fault) => return Err(fault),
-        };
-        match restore_from(alloc, self.roles(), &mut passes, reader) {
-            Ok(restored) => {
-                self.give_all(rt, session, passes);
-                Ok(restored)
-            }
-            Err(fault) => Err(SessionFault::Journal(fault)),
-        }
+        let mut passes = self.take_all(rt, alloc, session)?;
+        let restored = restore_from(alloc, self.roles(), &mut passes, reader)?;
+        self.give_all(rt, session, passes);
+        Ok(restored)
     }
 }

@@ -3,16 +3,14 @@ ghost use Rattle.std.specs.Prelude.{◌≡◌, ◌+◌, ◌<◌, ◌≤◌, ◌^
 ghost use Rattle.std.specs.IoError.{error_kind};
 ghost use Rattle.mps_hub.specs.Serving.{IsServeFaultOf};
 
-use crate::attending::attend;
+use crate::attending::Serving;
 use crate::desk::Desk;
-use crate::gates::{Gate, Unguarded};
 use crate::limits::Limits;
 use crate::lobby::{Lobby, bell_of};
-use crate::patience::{Patient, Steady, moment_after, read_until};
-use mps_dev::{Discard, OverRead, OverWrite, Sink};
-use mps_keeper::{Disk, Keeper};
+use crate::patience::{RetryingWriter, TimedReader, moment_after, read_until};
+use mps_dev::{OverRead, OverWrite, Sink};
+use mps_keeper::{Disk, Gate, Keeper, Unguarded};
 use std::alloc::Global;
-use std::fs::File;
 use std::io::ErrorKind;
 use std::net::{Shutdown, SocketAddr, TcpListener, TcpStream};
 use std::sync::{Arc, Wait};
@@ -47,7 +45,7 @@ pub enum ServeFault {
     Accept,
     #[error("out of memory")]
     Memory,
-    /// So nothing more is answered.
+    /// Nothing is answered any more that isn't recorded.
     #[error("lines of session {session} were lost")]
     Unrecorded { session: u64 },
 }
@@ -78,33 +76,21 @@ fn broken_of<S: Sink, D>(keepers: &[Keeper<S, D>]) -> Option<usize>
 // Attends to the connection at that place of the lobby, and closes it. Answers are sent at once (`TCP_NODELAY`), where
 // the system can. Where lines were lost no connection goes on.
 fn connection<R: Wait + Clock + 'static, G: Gate + 'static, S: Sink + 'static, D: Disk + 'static>(
-    rt: &R,
-    alloc: Global,
-    desk: &Desk<'_>,
-    gate: &G,
-    keepers: &[Keeper<S, D>],
+    serving: &Serving<'_, '_, R, G, S, D>,
     lobby: &Lobby,
     number: u64,
     place: usize,
     stream: Arc<TcpStream, Global>,
 ) {
+    let rt = serving.rt;
     let limits = lobby.limits();
-    if let Some(patient) = Patient::new(rt, &stream, limits.first_line(), limits.idle) {
+    if let Some(timed) = TimedReader::new(rt, &stream, limits.first_line(), limits.idle) {
         let _set = stream.set_nodelay(true);
-        let mut reader = OverRead::new(patient);
-        let mut writer = OverWrite::new(Steady { stream: &stream });
-        let _ended = attend(
-            rt,
-            alloc,
-            desk,
-            gate,
-            keepers,
-            number,
-            &mut reader,
-            &mut writer,
-        );
+        let mut reader = OverRead::new(timed);
+        let mut writer = OverWrite::new(RetryingWriter { stream: &stream });
+        let _ended = serving.attend(number, &mut reader, &mut writer);
     }
-    if broken_of(keepers).is_some() {
+    if broken_of(serving.keepers).is_some() {
         lobby.close(rt);
     }
     linger(rt, &stream);
@@ -150,21 +136,16 @@ fn let_in<
     D: Disk + Sync + 'static,
 >(
     scope: &Scope<'s, E>,
-    rt: &'s R,
-    alloc: Global,
-    desk: &'s Desk<'d>,
-    gate: &'s G,
-    keepers: &'s [Keeper<S, D>],
+    serving: &'s Serving<'s, 'd, R, G, S, D>,
     lobby: &'s Lobby,
     number: u64,
     stream: TcpStream,
 ) -> Result<(), NotStarted> {
-    let Some((place, stream)) = lobby.enter(rt, alloc, stream) else {
+    let rt = serving.rt;
+    let Some((place, stream)) = lobby.enter(rt, serving.alloc, stream) else {
         return Err(NotStarted);
     };
-    let started = scope.spawn(move || connection(
-        rt, alloc, desk, gate, keepers, lobby, number, place, stream,
-    ));
+    let started = scope.spawn(move || connection(serving, lobby, number, place, stream));
     if started.is_err() {
         drop(started);
         lobby.leave(rt, place);
@@ -184,28 +165,23 @@ fn accept_all<
     D: Disk + Sync + 'static,
 >(
     scope: &Scope<'s, E>,
-    rt: &'s R,
-    alloc: Global,
-    listener: &TcpListener,
-    desk: &'s Desk<'d>,
-    gate: &'s G,
-    keepers: &'s [Keeper<S, D>],
+    serving: &'s Serving<'s, 'd, R, G, S, D>,
     lobby: &'s Lobby,
+    listener: &TcpListener,
 ) -> Result<u64, ServeFault> {
     let limits = lobby.limits();
     let mut lost = 0;
     for earlier in 0..limits.connections.unwrap_or(u64::MAX) {
-        if !lobby.lets_in(rt) {
+        if !lobby.lets_in(serving.rt) {
             return Ok(lost);
         }
         match accepted(listener.accept()) {
             Ok(stream) => {
-                let number = earlier + 1;
-                let started = let_in(scope, rt, alloc, desk, gate, keepers, lobby, number, stream);
+                let started = let_in(scope, serving, lobby, earlier + 1, stream);
                 lost = count_lost(lost, &started);
             }
             Err(_) if limits.connections.is_none() => thread::sleep(
-                rt,
+                serving.rt,
                 Duration::from_millis(PAUSE),
             ),
             Err(fault) => return Err(fault),
@@ -217,46 +193,43 @@ fn accept_all<
 /// Accepts connections, attends to each in a thread of its own, and returns when all have ended. A connection whose
 /// thread can't be started is closed and counted as lost. After a fault no more are accepted.
 ///
-/// The K-th session is recorded by the K-th of the keepers, where there is one. Where a keeper loses lines, nothing
-/// more is answered, and all connections are ended.
+/// Where a keeper loses lines, nothing is answered any more that isn't recorded, and all connections are ended.
 pub fn serve_recorded<
     R: Threads + Wait + Clock + Sync + 'static,
     G: Gate + Sync + 'static,
     S: Sink + Send + 'static,
     D: Disk + Sync + 'static,
 >(
-    rt: &R,
-    alloc: Global,
+    serving: &Serving<'_, '_, R, G, S, D>,
     listener: &TcpListener,
-    desk: &Desk<'_>,
-    gate: &G,
-    keepers: &[Keeper<S, D>],
     limits: Limits,
 ) -> Result<Served, ServeFault>
-    requires keepers { length keepers.now ≤ length desk.now.cells }
+    requires keepers { length serving.now.keepers.now ≤ length serving.now.desk.now.cells }
     ensures served { IfOk result (λ s. IfSome limits.connections (λ n. s.ended + s.lost ≡ n)) }
-    ensures unrecorded { IfErr result (IsServeFaultOf desk.now.first (length keepers.now)) }
+    ensures unrecorded { IfErr result
+        (IsServeFaultOf serving.now.desk.now.first (length serving.now.keepers.now)) }
 {
     let Some(bell) = bell_of(listener) else {
         return Err(ServeFault::Accept);
     };
-    let Ok(lobby) = Lobby::new(alloc, bell, limits) else {
+    let Ok(lobby) = Lobby::new(serving.alloc, bell, limits) else {
         return Err(ServeFault::Memory);
     };
     let lobby = &lobby;
-    let accepted = thread::scope(thread::scope_env(), rt, move |scope| {
-        accept_all(scope, rt, alloc, listener, desk, gate, keepers, lobby)
+    let accepted = thread::scope(thread::scope_env(), serving.rt, move |scope| {
+        accept_all(scope, serving, lobby, listener)
     });
-    if let Some(place) = broken_of(keepers) {
+    if let Some(place) = broken_of(serving.keepers) {
         return Err(ServeFault::Unrecorded {
-            session: desk.first() + place as u64,
+            session: serving.desk.first() + place as u64,
         });
     }
     counted(limits, accepted)
 }
 
-// What so many lost connections come to. What the closure of the scope ensures isn't known, since the desk that it
-// borrows has a lifetime: so `min`, and so a fault that tells of lost lines is told as one of accepting.
+// What so many lost connections come to. What the closure of the scope ensures isn't known here, since it borrows the
+// desk. So the count is limited by `min`, and a fault that tells of lost lines, which can't come, is told as one of
+// accepting.
 fn counted(limits: Limits, accepted: Result<u64, ServeFault>) -> Result<Served, ServeFault>
     ensures served { IfOk result (λ s. IfSome limits.connections (λ n. s.ended + s.lost ≡ n)) }
     ensures unrecorded { IfErr result (IsServeFaultOf 0 0) }
@@ -276,13 +249,6 @@ fn counted(limits: Limits, accepted: Result<u64, ServeFault>) -> Result<Served, 
     }
 }
 
-/// No keepers, for sessions that aren't recorded.
-pub fn no_keepers() -> &'static [Keeper<Discard, File>]
-    ensures { length result.now ≡ 0 }
-{
-    &[]
-}
-
 /// Accepts `n` connections to sessions that aren't recorded, with a gate that runs before each command.
 pub fn serve_with<R: Threads + Wait + Clock + Sync + 'static, G: Gate + Sync + 'static>(
     rt: &R,
@@ -299,7 +265,8 @@ pub fn serve_with<R: Threads + Wait + Clock + Sync + 'static, G: Gate + Sync + '
         connections: Some(n),
         idle: None,
     };
-    serve_recorded(rt, alloc, listener, desk, gate, no_keepers(), limits)
+    let serving = Serving::unrecorded(rt, alloc, desk, gate);
+    serve_recorded(&serving, listener, limits)
 }
 
 /// Accepts `n` connections to sessions that aren't recorded.

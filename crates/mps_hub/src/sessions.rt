@@ -12,7 +12,7 @@ ghost use Rattle.mps_hub.specs.Places.{IsOfCell};
 use crate::desk::{Desk, Row};
 use mps_base::Roles;
 use mps_cell::{Cell, Deal, Pass, PassFault};
-use mps_local::Local;
+use mps_local::{Local, copy_all};
 use mps_room::Room;
 use mps_session::{OpenFault, Session};
 use std::alloc::{AllocError, Global};
@@ -83,23 +83,12 @@ fn cell_of(
     }
 }
 
-// Copies of the types.
-fn copies(alloc: Global, types: &[Local]) -> Result<Vec<Local>, AllocError>
-    ensures { IfOk result (λ made. map plain made.items ≡ map plain types.now) }
-{
-    let mut made = Vec::with_capacity(alloc, types.len())?;
-    for t in types {
-        made.push_reserved(t.copy(alloc)?);
-    }
-    Ok(made)
-}
-
 // A session with these types, in which nothing was done yet.
 fn session_of(alloc: Global, types: &[Local]) -> Result<Session, OpenFault>
     ensures new { IfOk result (λ s. s ≡ record { types = map plain types.now; state = initial }) }
     ensures fault { IfErr result (λ fault. fault ≢ OpenFault.Memory → KeepsShut (map plain types.now) fault) }
 {
-    Session::open(alloc, copies(alloc, types)?)
+    Session::open(alloc, copy_all(alloc, types)?)
 }
 
 // So many sessions with these types.

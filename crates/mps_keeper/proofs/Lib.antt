@@ -1,3 +1,4 @@
+-- The lemmas of mps_keeper, a file each; other crates may use those with `pub`.
 pub mod Taking
 pub mod Counting
 pub mod Recording

@@ -11,26 +11,29 @@ use Rattle.mps_room.specs.declared.caller.Caller.{Ghosts}
 use Rattle.mps_line.specs.JournalLines.{SpellsJournalLine}
 use Rattle.mps_keeper.specs.Restored.{LineRefused, LinesRestored}
 use Rattle.mps_keeper.specs.declared.restore.RestoreFault.{RestoreFault}
-use Rattle.mps_keeper.specs.declared.restore.RestoreFault.TheVariants.{Read, Line}
-use Rattle.mps_keeper.specs.declared.restore.RestoreFault.TheVariants as faults
-use Rattle.mps_keeper.specs.declared.restore.Unaccepted.{Unaccepted}
-use Rattle.mps_keeper.specs.declared.restore.Unaccepted.TheVariants.{Bad, Refused, Memory}
+use Rattle.mps_keeper.specs.declared.restore.RestoreFault.TheVariants.{Read, Memory, Unreadable, Refused, Taken}
 
--- why a line can't be read
-abbrev pub of_reading : LineFault → Unaccepted
-of_reading reading.Bad = Bad
-of_reading reading.Memory = Memory
+-- why that line can't be read
+abbrev pub of_reading : (at : ℕ) → LineFault → RestoreFault
+of_reading at reading.Bad = Unreadable at
+of_reading at reading.Memory = Memory
 
 -- the line spells no command
 abbrev pub IsUnspelled : (names : List (List ℕ)) → List ℕ → Type 0
 IsUnspelled names line =
     (role : ℕ) (number : Option ℕ) (command : Command) → SpellsJournalLine names line role number command → ⊥
 
--- a line that is at fault; memory may run out at any
-abbrev pub IsFaulty : {C : Type 0} → Ghosts C → (names : List (List ℕ)) → List C → List ℕ → Unaccepted → Type 0
-IsFaulty caller names callers line Bad = IsUnspelled names line
-IsFaulty caller names callers line Refused = LineRefused caller names callers line
-IsFaulty caller names callers line Memory = Unit
+-- why the command of that line isn't accepted: it was refused so, or memory ran out
+abbrev pub IsUncalled : (WasRefused : Type 0) → (at : ℕ) → RestoreFault → Type 0
+IsUncalled WasRefused at (Refused line) = (line ≡ at) × WasRefused
+IsUncalled WasRefused at Memory = Unit
+IsUncalled WasRefused at fault = ⊥
+
+-- that line is at fault; memory may run out at any
+abbrev pub IsFaulty : {C : Type 0} → Ghosts C → (names : List (List ℕ)) → List C → List ℕ → (at : ℕ) → RestoreFault
+    → Type 0
+IsFaulty caller names callers line at (Unreadable number) = (number ≡ at) × IsUnspelled names line
+IsFaulty caller names callers line at fault = IsUncalled (LineRefused caller names callers line) at fault
 
 module _ {C : Type 0} (caller : Ghosts C) (names : List (List ℕ)) (callers : List C) (bytes : List ℕ) where
   -- each whole line was restored: so many, of so many bytes
@@ -43,15 +46,14 @@ module _ {C : Type 0} (caller : Ghosts C) (names : List (List ℕ)) (callers : L
     pub sized : size ≡ length (flat_map ended lines)
 
   -- the lines before this one were restored, and it was not
-  pub record IsFirstFault (number : ℕ) (fault : Unaccepted) : Type 0 where
+  pub record IsFirstFault (fault : RestoreFault) : Type 0 where
     pub lines : List (List ℕ)
     pub line : List ℕ
     pub others : List ℕ
     pub whole : bytes ≡ flat_map ended lines ++ (ended line ++ others)
     pub mid : List C
     pub restored : LinesRestored caller names callers lines mid
-    pub counted : number ≡ length lines + 1
-    pub faulty : IsFaulty caller names mid line fault
+    pub faulty : IsFaulty caller names mid line (length lines + 1) fault
 
 -- more bytes are read, and stand after the others
 pub record ReadsMore (left left' : Option (List ℕ)) (all all' : List ℕ) : Type 0 where
@@ -62,8 +64,8 @@ pub record ReadsMore (left left' : Option (List ℕ)) (all all' : List ℕ) : Ty
 -- a fault of no line
 abbrev pub IsNoLine : RestoreFault → Type 0
 IsNoLine Read = Unit
-IsNoLine faults.Memory = Unit
-IsNoLine (Line fault) = ⊥
+IsNoLine Memory = Unit
+IsNoLine fault = ⊥
 
 module _ {C R : Type 0} (caller : Ghosts C) (source : SourceGhosts R) (names : List (List ℕ)) (callers : List C)
     (reader reader' : R) where
@@ -75,8 +77,14 @@ module _ {C R : Type 0} (caller : Ghosts C) (source : SourceGhosts R) (names : L
     pub restored : IsRestoredTo caller names callers read callers' count size
 
   -- the first line of all that the source gave that was not
-  pub record FaultFrom (number : ℕ) (fault : Unaccepted) : Type 0 where
+  pub record LineFaultFrom (fault : RestoreFault) : Type 0 where
     pub read : List ℕ
     pub bytes : Consumes (source.remaining reader) (source.remaining reader') read
     pub over : IsAtEnd (source.remaining reader')
-    pub first : IsFirstFault caller names callers read number fault
+    pub first : IsFirstFault caller names callers read fault
+
+  -- why not each was: a read failed, memory ran out, or a line is at fault
+  abbrev pub FaultFrom : RestoreFault → Type 0
+  FaultFrom Read = Unit
+  FaultFrom Memory = Unit
+  FaultFrom fault = LineFaultFrom fault

@@ -4,7 +4,7 @@ ghost use Rattle.std.specs.Prelude.{length};
 use crate::recorder::Recordable;
 use mps_base::Role;
 use mps_cell::Held;
-use mps_room::{Position, Solo};
+use mps_room::Solo;
 use std::sync::Wait;
 
 impl Recordable for Solo {
@@ -12,10 +12,6 @@ impl Recordable for Solo {
 
     fn own_role(&self) -> Role {
         self.role
-    }
-
-    fn position(&self, number: u64) -> Position {
-        self.numbers.position(number)
     }
 
     fn seen(&self) -> u64 {
@@ -28,10 +24,6 @@ impl<'r, 'a, R: Wait> Recordable for Held<'r, 'a, R> {
 
     fn own_role(&self) -> Role {
         self.pass.role()
-    }
-
-    fn position(&self, number: u64) -> Position {
-        self.pass.numbers().position(number)
     }
 
     fn seen(&self) -> u64 {

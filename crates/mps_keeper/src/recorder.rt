@@ -2,12 +2,11 @@
 ghost use Rattle.std.specs.Prelude.{◌≡◌, ℕ, Bool, true, false, List, [], Option};
 ghost use Rattle.std.specs.Io.KnownBytes.{Appends};
 ghost use Rattle.mps_keeper.specs.Books.{TookMore};
-ghost use Rattle.mps_room.specs.Numbers.{IsPosition};
 
 use mps_base::Role;
-use mps_room::{Caller, Position};
+use mps_room::Caller;
 
-/// What records lines, in a file.
+/// What records lines: in a sink, in a file that connections share, or nowhere.
 pub trait Recorder {
     // Whether it records any.
     ghost records: { Self → Bool };
@@ -26,8 +25,8 @@ pub trait Recorder {
     fn is_whole(&self) -> bool
         ensures { result ≡ whole self.now };
 
-    /// Records the line of the journal's nth entry, from 1, after those before it, which no clause says. It comes with
-    /// its LF. Once lines were lost nothing more is taken.
+    /// Records the line, with its LF, of the journal's nth entry, from 1. Once lines were lost nothing more is taken. That
+    /// it is recorded after those of the entries before it no clause says.
     fn add(&mut self, nth: u64, line: &[u8])
         ensures same { records self.new ≡ records self.old }
         ensures once { whole self.new ≡ true → whole self.old ≡ true }
@@ -50,7 +49,7 @@ pub trait Recorder {
         ensures more { TookMore (taken self.old) (taken self.new) };
 }
 
-/// A caller that knows its role, where a number stands, and how much of the journal its last call showed.
+/// A caller that knows its role, and how much of the journal its last call showed.
 pub trait Recordable: Caller {
     // How many entries its last call showed.
     ghost seen: { Self → ℕ };
@@ -59,11 +58,8 @@ pub trait Recordable: Caller {
     fn own_role(&self) -> Role
         ensures { result ≡ Self.role self.now };
 
-    /// Where a number stands that a command of it has.
-    fn position(&self, number: u64) -> Position
-        ensures { IsPosition (Self.last self.now) number result };
-
-    /// How many entries its last call showed. Where that was accepted its own entry is the last of them.
+    /// How many entries its last call showed. Where that was accepted its own entry is the last of them, which no
+    /// clause says.
     fn seen(&self) -> u64
         ensures { result ≡ seen self.now };
 }

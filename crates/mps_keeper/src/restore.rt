@@ -6,54 +6,39 @@ ghost use Rattle.mps_command.specs.declared.answer.Answer.TheVariants.{Refused a
 ghost use Rattle.mps_command.specs.declared.answer.Refusal.TheVariants.{Memory as NoMemory};
 ghost use Rattle.mps_room.specs.Journal.{is_accepted};
 ghost use Rattle.mps_keeper.specs.Restored.{IsAcceptedOf, IsRefusedOf, LineRestored};
-ghost use Rattle.mps_keeper.specs.RestoredFaults.{of_reading, IsRestoredTo, IsFirstFault, IsFaulty, RestoredFrom};
-ghost use Rattle.mps_keeper.specs.RestoredFaults.{FaultFrom};
+ghost use Rattle.mps_keeper.specs.RestoredFaults.{of_reading, IsRestoredTo, IsFirstFault, IsFaulty, IsUncalled};
+ghost use Rattle.mps_keeper.specs.RestoredFaults.{FaultFrom, RestoredFrom};
 ghost use Rattle.mps_keeper.specs.RestoredFaults.{IsNoLine, ReadsMore};
-ghost use Rattle.mps_keeper.specs.declared.restore.Unaccepted.{Unaccepted as UnacceptedAs};
-ghost use Rattle.mps_keeper.specs.declared.restore.RestoreFault.TheVariants.{Line as AtLine, Memory as OutOfMemory};
+ghost use Rattle.mps_keeper.specs.declared.restore.RestoreFault.TheVariants.{Memory as OutOfMemory};
 ghost use Rattle.std.specs.Io.KnownBytes.{Consumes, IsAtEnd};
 
-use crate::recorded::is_accepted;
+use crate::guest::is_accepted;
 use mps_base::Roles;
 use mps_command::{Answer, Command, Refusal};
-use mps_dev::Source;
+use mps_dev::{MAX_READS, Source};
 use mps_line::{LineFault, read_journal_line};
 use mps_lines::line_end;
-use mps_room::{Caller, Told};
+use mps_room::{Caller, Told, call_numbered};
 use std::alloc::{AllocError, Global};
 use thiserror::Error;
 
-/// Why a line was not restored.
-#[derive(Clone, Copy, Debug, PartialEq, Eq, Error)]
-pub enum Unaccepted {
-    #[error("it spells no command")]
-    Bad,
-    #[error("its command isn't accepted")]
-    Refused,
-    /// While it was read, or its command was called.
-    #[error("out of memory")]
-    Memory,
-}
-
-/// The first line that was not restored, counted from 1.
-#[derive(Clone, Copy, Debug, PartialEq, Eq, Error)]
-#[error("line {line}: {fault}")]
-pub struct NotRestored {
-    pub line: u64,
-    pub fault: Unaccepted,
-}
-
-/// Why callers were not restored from a source.
+/// Why callers were not restored from a journal.
 #[derive(Clone, Copy, Debug, PartialEq, Eq, Error)]
 pub enum RestoreFault {
-    /// Or the source gives more than is ever read.
+    /// A read failed, or the source gives more than is ever read.
     #[error("a read failed")]
     Read,
     #[error("out of memory")]
     Memory,
-    /// The first line that was not restored.
-    #[error("{0}")]
-    Line(NotRestored),
+    /// The first line that was not restored, counted from 1, spells no command.
+    #[error("line {line} spells no command")]
+    Unreadable { line: u64 },
+    /// The command of the first line that was not restored, counted from 1, is not accepted.
+    #[error("the command of line {line} isn't accepted")]
+    Refused { line: u64 },
+    /// A pass of the session is in use.
+    #[error("a pass of the session is in use")]
+    Taken,
 }
 
 impl From<AllocError> for RestoreFault {
@@ -64,13 +49,10 @@ impl From<AllocError> for RestoreFault {
     }
 }
 
-/// How many bytes are asked for at a time.
-pub const BLOCK: usize = 65_536;
+/// How many bytes of a journal are asked for at a time.
+pub const JOURNAL_BLOCK: usize = 65_536;
 
-/// How often a source is read from at most.
-pub const MOST_READS: u64 = 1_000_000;
-
-/// How many bytes of a source are read at most: more than a journal of 100,000 entries has.
+/// Of a source with more bytes than these no more is read. A journal has fewer (`a_full_journal_is_read`).
 pub const MOST_BYTES: usize = 67_108_864;
 
 /// How many lines were restored, and how many bytes they have with their LFs.
@@ -80,80 +62,81 @@ pub struct Restored {
     pub bytes: usize,
 }
 
-// What a command of a line came to.
-#[derive(Clone, Copy, PartialEq, Eq)]
-enum Called {
-    Accepted,
-    Refused,
-    // memory ran out, which says nothing of the line
-    Starved,
+// Why the command of that line is refused.
+fn of_refusal(at: u64, refusal: Refusal) -> RestoreFault
+    ensures { IsUncalled (refusal ≢ NoMemory) at result }
+{
+    match refusal {
+        Refusal::Memory => RestoreFault::Memory,
+        _ => RestoreFault::Refused { line: at },
+    }
 }
 
-// What the answer to a command says of it.
-fn comes_to(answer: &Answer) -> Called
-    ensures accepted { result ≡ Called.Accepted → is_accepted answer.now ≡ true }
-    ensures refused { result ≡ Called.Refused → is_accepted answer.now ≡ false }
-    ensures memory { result ≡ Called.Refused → answer.now ≢ Denied NoMemory }
+// Whether the answer accepts the command of that line.
+fn of_answer(at: u64, answer: &Answer) -> Result<(), RestoreFault>
+    ensures accepted { OnOk result (is_accepted answer.now ≡ true) }
+    ensures fault { IfErr result
+        (IsUncalled ((is_accepted answer.now ≡ false) × (answer.now ≢ Denied NoMemory)) at) }
 {
     match answer {
-        Answer::Refused(Refusal::Memory) => Called::Starved,
-        answer if is_accepted(answer) => Called::Accepted,
-        _ => Called::Refused,
+        Answer::Refused(refusal) => Err(of_refusal(at, *refusal)),
+        answer if is_accepted(answer) => Ok(()),
+        _ => Err(RestoreFault::Refused { line: at }),
     }
 }
 
-// Gives the command to the caller.
-fn call_recorded<C: Caller>(caller: &mut C, number: Option<u64>, command: Command) -> Called
+// Gives the command of that line to the caller.
+fn call_recorded<C: Caller>(
+    caller: &mut C,
+    at: u64,
+    number: Option<u64>,
+    command: Command,
+) -> Result<(), RestoreFault>
     requires { IsSome (change_of command) }
-    ensures accepted { result ≡ Called.Accepted → IsAcceptedOf C.Caller caller.old number command caller.new }
-    ensures refused { result ≡ Called.Refused → IsRefusedOf C.Caller caller.old number command caller.new }
+    ensures accepted { OnOk result (IsAcceptedOf C.Caller caller.old number command caller.new) }
+    ensures fault { IfErr result (IsUncalled (IsRefusedOf C.Caller caller.old number command caller.new) at) }
 {
     match number {
-        Some(n) => match caller.call_numbered(n, command) {
-            Told::Fresh => Called::Accepted,
-            Told::Refused(Refusal::Memory) => Called::Starved,
-            Told::Refused(_) => Called::Refused,
-            Told::Kept => Called::Refused,
-            Told::Wrong => Called::Refused,
+        Some(n) => match call_numbered(caller, n, command) {
+            Told::Fresh => Ok(()),
+            Told::Refused(refusal) => Err(of_refusal(at, refusal)),
+            Told::Kept | Told::Wrong => Err(RestoreFault::Refused { line: at }),
         },
-        None => comes_to(&caller.call(command)),
+        None => of_answer(at, &caller.call(command)),
     }
 }
 
-// Why the line can't be read.
-fn of_reading(fault: LineFault) -> Unaccepted
-    ensures { result ≡ of_reading fault }
+// Why that line can't be read.
+fn of_reading(at: u64, fault: LineFault) -> RestoreFault
+    ensures { result ≡ of_reading at fault }
 {
     match fault {
-        LineFault::Bad => Unaccepted::Bad,
-        LineFault::Memory => Unaccepted::Memory,
+        LineFault::Bad => RestoreFault::Unreadable { line: at },
+        LineFault::Memory => RestoreFault::Memory,
     }
 }
 
-// Gives the line's command to its role's caller.
+// Gives the command of that line to its role's caller.
 fn restore_line<C: Caller>(
     alloc: Global,
     roles: &Roles,
     callers: &mut Vec<C>,
+    at: u64,
     line: &[u8],
-) -> Result<(), Unaccepted>
+) -> Result<(), RestoreFault>
     requires { length callers.old.items ≡ length roles.now }
     ensures length { length callers.new.items ≡ length callers.old.items }
     ensures ok { OnOk result (LineRestored C.Caller roles.now callers.old.items line.now callers.new.items) }
-    ensures faulty { IfErr result (IsFaulty C.Caller roles.now callers.old.items line.now) }
+    ensures faulty { IfErr result (IsFaulty C.Caller roles.now callers.old.items line.now at) }
 {
-    let entry = match read_journal_line(alloc, roles, line) {
-        Ok(entry) => entry,
-        Err(fault) => return Err(of_reading(fault)),
-    };
-    match call_recorded(
-        &mut callers[entry.role.index()],
-        entry.number,
-        entry.command,
-    ) {
-        Called::Accepted => Ok(()),
-        Called::Refused => Err(Unaccepted::Refused),
-        Called::Starved => Err(Unaccepted::Memory),
+    match read_journal_line(alloc, roles, line) {
+        Ok(entry) => call_recorded(
+            &mut callers[entry.role.index()],
+            at,
+            entry.number,
+            entry.command,
+        ),
+        Err(fault) => Err(of_reading(at, fault)),
     }
 }
 
@@ -164,25 +147,16 @@ pub fn restore_lines<C: Caller>(
     roles: &Roles,
     callers: &mut Vec<C>,
     bytes: &[u8],
-) -> Result<Restored, NotRestored>
+) -> Result<Restored, RestoreFault>
     requires { length callers.old.items ≡ length roles.now }
     ensures ok { IfOk result
         (λ r. IsRestoredTo C.Caller roles.now callers.old.items bytes.now callers.new.items r.lines r.bytes) }
-    ensures err { IfErr result
-        (λ fault. IsFirstFault C.Caller roles.now callers.old.items bytes.now fault.line fault.fault) }
+    ensures err { IfErr result (IsFirstFault C.Caller roles.now callers.old.items bytes.now) }
 {
     let mut rest = bytes;
     let mut lines = 0;
     while let Some(k) = line_end(rest) {
-        match restore_line(alloc, roles, callers, &rest[..k]) {
-            Ok(()) => {}
-            Err(fault) => {
-                return Err(NotRestored {
-                    line: lines + 1,
-                    fault,
-                });
-            }
-        }
+        restore_line(alloc, roles, callers, lines + 1, &rest[..k])?;
         lines += 1;
         rest = &rest[k + 1..];
     }
@@ -221,8 +195,8 @@ fn read_all<R: Source>(alloc: Global, reader: &mut R) -> Result<Vec<u8>, Restore
     ensures no_line { IfErr result IsNoLine }
 {
     let mut all = Vec::new(alloc);
-    let mut block = vec![in alloc; 0u8; BLOCK]?;
-    for _ in 0..MOST_READS {
+    let mut block = vec![in alloc; 0u8; JOURNAL_BLOCK]?;
+    for _ in 0..MAX_READS {
         if read_once(reader, &mut all, block.as_mut_slice())? {
             return Ok(all);
         }
@@ -244,12 +218,8 @@ pub fn restore_from<C: Caller, R: Source>(
     requires reads { R.calls reader.old < 2 ^ 62 }
     ensures ok { IfOk result (λ r. RestoredFrom C.Caller R.Source roles.now callers.old.items reader.old reader.new
         callers.new.items r.lines r.bytes) }
-    ensures err { (number : ℕ) (fault : UnacceptedAs) → result ≡ Err (AtLine (record { line = number; fault = fault }))
-        → FaultFrom C.Caller R.Source roles.now callers.old.items reader.old reader.new number fault }
+    ensures err { IfErr result (FaultFrom C.Caller R.Source roles.now callers.old.items reader.old reader.new) }
 {
     let all = read_all(alloc, reader)?;
-    match restore_lines(alloc, roles, callers, all.as_slice()) {
-        Ok(restored) => Ok(restored),
-        Err(fault) => Err(RestoreFault::Line(fault)),
-    }
+    restore_lines(alloc, roles, callers, all.as_slice())
 }

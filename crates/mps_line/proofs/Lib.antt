@@ -1,3 +1,4 @@
+-- The lemmas of mps_line, a file each; other crates may use those with `pub`.
 pub mod Splitting
 pub mod CommandLines
 pub mod Writing

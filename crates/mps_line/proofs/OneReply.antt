@@ -1,6 +1,7 @@
 -- What a reply's text means is unique.
 use Rattle.std.proofs.Common.{arith, rules, ◌≡◌, ◌≢◌, ℕ, ◌⊎◌, ⊎_elim, inl, inr, List, [], ◌∷◌, Some, get_or, refl, sym, ap, subst, ◌∙◌}
-use Rattle.std.specs.Prelude.{◌<◌, Option, None, length, map, codes}
+use Rattle.std.specs.Prelude.{◌<◌, ◌==◌, ◌↔◌, IsTrue, Option, None, length, map, codes}
+use Rattle.std.proofs.lemmas.Bool.{eq-eqb, eqb-true}
 use Rattle.std.proofs.lemmas.Option.{same_Some}
 use Rattle.mps_base.specs.Names.{IsName}
 use Rattle.mps_base.specs.Spaced.{spaced}
@@ -14,6 +15,7 @@ use Rattle.mps_command.specs.declared.answer.Refusal.TheVariants.{Final, Needed}
 use Rattle.mps_line.specs.declared.write_replies.Reply.{Reply}
 use Rattle.mps_line.specs.declared.write_replies.Reply.TheVariants.{Answer as Answered, BadLine, Joined, NoSession, NoRole, Taken, Number as WrongNumber}
 use Rattle.mps_line.specs.Tokens.{Token, Word, Called, Number, Show, SpellsShow, SpellsToken, SpellsLine}
+use Rattle.mps_line.specs.Codes.{code_of, is_refusal, refusal_code}
 use Rattle.mps_line.specs.Private.Tokens.{HasNoSpace}
 use Rattle.mps_line.specs.Replies.{word_of, message_token, done_tokens, undone_tokens, news_tokens, refusal_tokens, SpellsReply}
 use Rattle.mps_line.proofs.Splitting.{one_split, never_split, digits_have_no_space, first_word, after_token, alone}
@@ -236,6 +238,41 @@ refused_or_not other = inr (λ e. absurd (omega (arith, e)))
 
 cause_letter : (c : Cause) → letter (reply_of c) ≡ 114
 cause_letter c = grind arith
+
+-- a refusal has a code
+refusal_coded : (r : Refusal) → 0 < refusal_code r
+refusal_coded r = grind arith
+
+-- a reply has a code where its letter is an r
+coded : (r : Reply) → letter r ≡ 114 → code_of r ≢ 0
+coded (Answered (Refused r)) e = λ none. absurd (omega (arith, none, refusal_coded r))
+coded BadLine e = λ none. absurd (omega (arith, none))
+coded NoSession e = λ none. absurd (omega (arith, none))
+coded NoRole e = λ none. absurd (omega (arith, none))
+coded Taken e = λ none. absurd (omega (arith, none))
+coded WrongNumber e = λ none. absurd (omega (arith, none))
+coded r e = absurd (omega (arith, e))
+
+-- and nowhere else
+lettered : (r : Reply) → code_of r ≢ 0 → letter r ≡ 114
+lettered (Answered (Refused r)) some = refl
+lettered BadLine some = refl
+lettered NoSession some = refl
+lettered NoRole some = refl
+lettered Taken some = refl
+lettered WrongNumber some = refl
+lettered r some = absurd (some refl)
+
+refusal_at : (line : List ℕ) → is_refusal line ≡ (get_or line 0 0 == 114)
+refusal_at [] = refl
+refusal_at (c ∷ line) = refl
+
+-- so its text tells it by the first byte
+pub told_by_letter : (a : List ℕ) (r : Reply) → SpellsReply a r → IsTrue (is_refusal a) ↔ code_of r ≢ 0
+told_by_letter a r h = (
+  (λ is. coded r (sym (begins a r h) ∙ eqb-true (get_or a 0 0) 114 (sym (refusal_at a) ∙ is))),
+  (λ some. refusal_at a ∙ eq-eqb (get_or a 0 0) 114 (begins a r h ∙ lettered r some)),
+)
 
 -- and so has the line that a role is joined to a connection
 one_pass : (a : List ℕ) (m n : ℕ) (x y : List ℕ) → SpellsReply a (Joined m x) → SpellsReply a (Joined n y) → (m ≡ n) × (x ≡ y)

@@ -1,5 +1,5 @@
 -- The codes of replies.
-use Rattle.std.specs.Prelude.{ℕ}
+use Rattle.std.specs.Prelude.{◌==◌, ℕ, Bool, false, List, [], ◌∷◌}
 use Rattle.mps_command.specs.declared.answer.Violation.{Violation}
 use Rattle.mps_command.specs.declared.answer.Violation.TheVariants.{Ended, WrongAct, WrongPeer, WrongSort, NoLabel}
 use Rattle.mps_command.specs.declared.answer.Violation.TheVariants.{NothingQueued, Mismatch}
@@ -40,3 +40,8 @@ code_of NoRole = 16
 code_of Taken = 17
 code_of WrongNumber = 19
 code_of reply = 0
+
+-- the line begins with an r, as a refusal's does
+abbrev pub is_refusal : List ℕ → Bool
+is_refusal [] = false
+is_refusal (c ∷ line) = c == 114

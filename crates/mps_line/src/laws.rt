@@ -1,10 +1,11 @@
 //! Laws of the lines' spellings.
-ghost use Rattle.std.specs.Prelude.{◌≡◌, ◌≢◌, ℕ, ◌<◌, List, None, Option, length};
+ghost use Rattle.std.specs.Prelude.{◌≡◌, ◌≢◌, ◌↔◌, ℕ, ◌<◌, IsTrue, List, None, Option, length};
 ghost use Rattle.std.specs.List.{AllByRecursion};
 ghost use Rattle.mps_base.specs.RoleLists.{AreDistinct};
 ghost use Rattle.mps_base.specs.Values.{IsShown};
 ghost use Rattle.mps_command.specs.declared.command.Command.{Command};
 ghost use Rattle.mps_line.specs.declared.write_replies.Reply.{Reply};
+ghost use Rattle.mps_line.specs.Codes.{code_of, is_refusal};
 ghost use Rattle.mps_line.specs.Commands.{SpellsCommand, SpellsScriptLine, SpellsNumbered, NamesRolesOf};
 ghost use Rattle.mps_line.specs.JournalLines.{SpellsJournalLine};
 ghost use Rattle.mps_line.specs.Replies.{SpellsReply};
@@ -59,7 +60,7 @@ pub fn one_numbered()
 }
 
 /// Each reply has at most one text, which stands on one line and has a byte at least, and a text is at
-/// most one reply's.
+/// most one reply's. The text begins with an r where the reply has a code other than 0, and nowhere else.
 pub fn one_reply_line()
     ensures spelling { (a b : List ℕ) (r : Reply) → SpellsReply a r → SpellsReply b r → a ≡ b }
     ensures reply { (a : List ℕ) (r s : Reply) → SpellsReply a r → SpellsReply a s → r ≡ s }
@@ -67,6 +68,7 @@ pub fn one_reply_line()
     ensures shown { (a : List ℕ) (r : Reply) → SpellsReply a r → AllByRecursion IsShown a }
     ensures no_line_feed { (a : List ℕ) (r : Reply) → SpellsReply a r
         → AllByRecursion (λ c. c ≢ 10) a }
+    ensures refusal { (a : List ℕ) (r : Reply) → SpellsReply a r → IsTrue (is_refusal a) ↔ code_of r ≢ 0 }
 {
     one_spelling();
 }

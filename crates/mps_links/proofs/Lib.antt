@@ -1,3 +1,4 @@
+-- The lemmas of mps_links, a file each; other crates may use those with `pub`.
 pub mod StepKeys
 pub mod Numbers
 pub mod Present

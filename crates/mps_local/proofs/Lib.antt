@@ -1,3 +1,4 @@
+-- The lemmas of mps_local, a file each; other crates may use those with `pub`.
 pub mod Weights
 pub mod Copied
 pub mod Examined

@@ -1,6 +1,6 @@
 //! Copies of local types, made in a loop with lists on the heap, so that no tree, long, deep or
 //! wide, runs the stack out.
-ghost use Rattle.std.specs.Prelude.{◌≡◌, ◌+◌, ◌<◌, ◌*◌, IfOk, OnOk};
+ghost use Rattle.std.specs.Prelude.{◌≡◌, ◌+◌, ◌<◌, ◌*◌, map, IfOk, OnOk};
 ghost use Rattle.mps_local.specs.Local.{plain, plain_branches};
 ghost use Rattle.mps_local.specs.Private.Weights.{weight, branch_weight};
 ghost use Rattle.mps_local.specs.Private.Copying.{Stacks, stacks, nothing_made, with_tree, with_branches, last_tree};
@@ -28,6 +28,17 @@ impl Branches {
         let mut made = make(alloc, Todo::Branches(self))?;
         Ok(made.take_branches())
     }
+}
+
+/// Equal types, in order.
+pub fn copy_all(alloc: Global, types: &[Local]) -> Result<Vec<Local>, AllocError>
+    ensures { IfOk result (λ made. map plain made.items ≡ map plain types.now) }
+{
+    let mut made = Vec::with_capacity(alloc, types.len())?;
+    for t in types {
+        made.push_reserved(t.copy(alloc)?);
+    }
+    Ok(made)
 }
 
 // What is still to be made: a tree or branches with all that stands below, or the first node of

@@ -25,6 +25,7 @@ pub mod projection;
 mod walking;
 mod writing;
 
+pub use copying::copy_all;
 pub use examples::{worked_actions, worked_projections};
 pub use faults::{
     LocalFault, first_fault, local_fault_laws, local_size_laws, projections_have_no_fault,

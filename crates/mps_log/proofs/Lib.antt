@@ -1,3 +1,4 @@
+-- The lemmas of mps_log, a file each; other crates may use those with `pub`.
 pub mod Waiting
 pub mod Leaving
 pub mod Taking

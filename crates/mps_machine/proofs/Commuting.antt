@@ -58,3 +58,27 @@ commute v v1 w s t es et ne waits =
   where
     receipt_from : (does : Effect) (from : ℕ) (slot : Option (List ℕ)) {k : ℕ} → does ≡ Takes from slot → from ≡ k → takes_from k does ≡ true
     receipt_from does from slot {k} is e = rw is (eq-eqb from k e)
+
+-- what a role may do it still may after a step of another, with the same message
+pub still_allowed : (v w x : View) (s t : Step) → rule v s ≡ Some w → rule v t ≡ Some x → s.role ≢ t.role → (y : View) × (rule w t ≡ Some y)
+still_allowed v w x s t es et ne =
+    let ps = rule_parts v w s es in
+    let pt = rule_parts v x t et in
+    let c = ps.0 in
+    let d = pt.0 in
+    let same_moved : moved (view_after v s c) t.role t.act ≡ moved v t.role t.act =
+    moved_stays v s c t.role (effect t.act) ne
+    (λ from slot is y. taken_there (v.participant t.role) d t.act v t.role from slot is pt.1) in
+    let allowed_t : participant_after ((view_after v s c).participant t.role) t.act (moved (view_after v s c) t.role t.act) ≡ Some d =
+    subst (λ (m : Option Message). participant_after ((view_after v s c).participant t.role) t.act m ≡ Some d) (sym same_moved)
+    (subst (λ (k : Participant). participant_after k t.act (moved v t.role t.act) ≡ Some d) (sym (other_role v s c t.role ne)) pt.1) in
+    (view_after (view_after v s c) t d, ap (λ (u : View). rule u t) (sym ps.2) ∙ rule_from (view_after v s c) t d allowed_t)
+
+-- so both may come in either order, and lead to one view
+pub square : (v w x : View) (s t : Step) → rule v s ≡ Some w → rule v t ≡ Some x → s.role ≢ t.role → (y : View) × (rule w t ≡ Some y) × (rule x s ≡ Some y)
+square v w x s t es et ne =
+    let pt = rule_parts v x t et in
+    let after = still_allowed v w x s t es et ne in
+    let other = commute v w after.0 s t es after.1 ne (λ y z. a_receipt_waits s.role t.role t.id t.role t.act v (v.participant t.role) pt.0 pt.1 z) in
+    let same : other.0 ≡ x = cc (other.1, et) in
+    (after.0, after.1, subst (λ (u : View). rule u s ≡ Some after.0) same other.2)

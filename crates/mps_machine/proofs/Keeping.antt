@@ -46,7 +46,7 @@ module _ (types : List LocalType) (st : State) (ok : IsSound types st) (c : Step
       )
 
   -- no commit has the number of a step that an undo takes out
-  other_number : (n : ℕ) → commit_fault (step_of h n) ≡ None → (c.id == n) ≡ false
+  pub other_number : (n : ℕ) → commit_fault (step_of h n) ≡ None → (c.id == n) ≡ false
   other_number n e = grind (arith, step_of_member h c ok.rising there, commit_named c commit)
 
   undo_kept : (p n : ℕ) → Keeps h (undo st p n).1.history c
@@ -59,7 +59,7 @@ module _ (types : List LocalType) (st : State) (ok : IsSound types st) (c : Step
       (λ e. without_kept (λ m. m == n) (alone_closed h n ok.rising (least_none (dependents h n) (none_under Needed by e))) (other_number n free))))
 
   -- no commit is among the steps that a rollback takes
-  not_among : (n : ℕ) → final_fault h n ≡ None → consequences h n c.id ≡ false
+  pub not_among : (n : ℕ) → final_fault h n ≡ None → consequences h n c.id ≡ false
   not_among n e = grind (arith, least_none, none_under, false_from_ne_true, no_member, IsIn-filter)
 
   rolled_back_kept : (n : ℕ) → Keeps h (rolled_back_unless_final st n).1.history c

@@ -1,3 +1,4 @@
+-- The lemmas of mps_machine, a file each; other crates may use those with `pub`.
 pub mod Stepping
 pub mod Commuting
 pub mod Apart
@@ -12,3 +13,12 @@ pub mod Marks
 pub mod Faults
 pub mod Answering
 pub mod Keeping
+pub mod Rollbacks
+pub mod Local
+pub mod Traces
+pub mod Moves
+pub mod Few
+pub mod Forth
+pub mod Back
+pub mod BackAndForth
+pub mod Undos

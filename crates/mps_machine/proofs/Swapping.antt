@@ -14,7 +14,7 @@ use Rattle.mps_machine.specs.Rule.{moved, rule, replay}
 use Rattle.mps_machine.proofs.Stepping.{rule_parts, replay_parts, replay_from, replay-append, queue_step, queue_count, one_if, participant_parts}
 use Rattle.mps_machine.proofs.Lawful.{exchanged}
 
-rule_same : (v : View) (s t : Step) → s.role ≡ t.role → s.act ≡ t.act → rule v s ≡ rule v t
+pub rule_same : (v : View) (s t : Step) → s.role ≡ t.role → s.act ≡ t.act → rule v s ≡ rule v t
 rule_same v s t r a = grind arith
 
 and_then_same : {A B : Type 0} (f g : A → Option B) (o : Option A) → ((x : A) → f x ≡ g x) → option_and_then f o ≡ option_and_then g o
@@ -129,7 +129,7 @@ to_front types (u ∷ b) a c t v w h others ea e ready =
           (Exchange (a ++ u ∷ t ∷ (b ++ c)) h a (b ++ c) u t refl others.0 off swaps))),
     )
 
-deeds-append : (a b : List Step) → deeds (a ++ b) ≡ deeds a ++ deeds b
+pub deeds-append : (a b : List Step) → deeds (a ++ b) ≡ deeds a ++ deeds b
 deeds-append [] b = refl
 deeds-append (s ∷ a) b = ap (λ (l : List (ℕ × Act)). (s.role, s.act) ∷ l) (deeds-append a b)
 

@@ -1,10 +1,11 @@
 -- Worked sessions: what the machine answers to short lists of requests, as answers were worked out by hand.
-use Rattle.std.specs.Prelude.{◌≡◌, ℕ, true, List, [], ◌∷◌, Some, None, codes, pos}
+use Rattle.std.specs.Prelude.{◌≡◌, ℕ, true, List, [], ◌∷◌, ◌++◌, Some, None, codes, pos}
 use Rattle.mps_base.specs.declared.action.Message.TheVariants.{Value as Plain, Label}
 use Rattle.mps_base.specs.declared.value.Value.TheVariants.{Int, Bool as Truth, Text as Words}
 use Rattle.mps_base.specs.declared.value.Sort.TheVariants.{Int as IntSort, Bool as BoolSort, Text as TextSort}
 use Rattle.mps_local.specs.Local.{LocalType, End, Var, Rec, Send, Recv, Select, Branch, NoMore, More}
 use Rattle.mps_history.specs.Steps.{numbers}
+use Rattle.mps_history.specs.Swaps.{deeds, Swaps}
 use Rattle.mps_command.specs.declared.command.Forward.TheVariants as steps
 use Rattle.mps_command.specs.declared.command.Change.TheVariants.{Forward, Undo, Rollback, Back}
 use Rattle.mps_command.specs.declared.answer.Violation.{Violation}
@@ -15,6 +16,7 @@ use Rattle.mps_command.specs.declared.answer.Refusal.TheVariants.{Needed, NoMark
 use Rattle.mps_command.specs.declared.answer.Answer.{Answer}
 use Rattle.mps_command.specs.declared.answer.Answer.TheVariants.{Done, Undone, Refused}
 use Rattle.mps_machine.specs.Machine.{State, initial, view_of, Request, answers, after}
+use Rattle.mps_machine.specs.Runs.{survivors}
 
 -- roles, by their places
 abbrev pub a : ℕ
@@ -372,3 +374,29 @@ TheLeastCommitIsNamed =
     ∷ commits a ∷ rolls_back a 2 ∷ goes_back a (codes "m") ∷ rolls_back b 3 ∷ rolls_back a 5 ∷ [])
     ≡ done 1 ∷ done 2 ∷ done_with 3 1 ∷ done 4 ∷ done 5 ∷ Refused (Final 4) ∷ Refused (Final 4) ∷ Refused (Final 4)
     ∷ Refused (Final 5) ∷ []
+
+-- either of two rollbacks may come first: the same steps are left, and what went with the first is gone
+abbrev pub EitherRollbackMayComeFirst : Type 0
+EitherRollbackMayComeFirst =
+    let takes = receives_into b a (codes "x") in
+    let two_sends = sends_int a b 1 ∷ takes ∷ sends_int a b 2 ∷ takes ∷ [] in
+    let sender_first = two_sends ++ rolls_back a 3 ∷ rolls_back b 4 ∷ [] in
+    let receiver_first = two_sends ++ rolls_back b 4 ∷ rolls_back a 3 ∷ [] in
+    let taken = done 1 ∷ done_with 2 1 ∷ done 3 ∷ done_with 4 2 ∷ [] in
+    (answers stream initial sender_first ≡ taken ++ Undone (4 ∷ 3 ∷ []) ∷ Refused NoStep ∷ [])
+    × (answers stream initial receiver_first ≡ taken ++ Undone (4 ∷ []) ∷ Undone (3 ∷ []) ∷ [])
+    × (numbers (after stream initial sender_first).history ≡ 1 ∷ 2 ∷ [])
+    × (numbers (after stream initial receiver_first).history ≡ 1 ∷ 2 ∷ [])
+
+-- what was done and undone on the way leaves no trace, numbers aside
+abbrev pub ADetourLeavesNoTrace : Type 0
+ADetourLeavesNoTrace =
+    let detour = sends_int a b 1 ∷ receives_into b a (codes "x") ∷ rolls_back a 1 ∷ sends_int a b 2 ∷ [] in
+    (deeds (survivors stream detour) ≡ deeds (survivors stream (sends_int a b 2 ∷ [])))
+    × (numbers (survivors stream detour) ≡ 3 ∷ [])
+
+-- sends of strangers may be exchanged
+abbrev pub StrangersMayChangePlaces : Type 0
+StrangersMayChangePlaces =
+    Swaps (survivors two_pairs (sends_int a b 1 ∷ sends_int c d 2 ∷ []))
+    (survivors two_pairs (sends_int c d 2 ∷ sends_int a b 1 ∷ []))

@@ -6,3 +6,5 @@ pub mod Examples
 pub mod Undoing
 pub mod Faults
 pub mod Answering
+pub mod Alike
+pub mod Runs

@@ -1,15 +1,16 @@
 -- What is promised of steps that are undone. A step may be undone only when its consequences are (Danos, Krivine,
 -- CONCUR 2004). A commit is never undone, nor is what it depends on.
 use Rattle.std.specs.Prelude.{◌≡◌, ◌≢◌, ◌↔◌, ◌⊎◌, ℕ, ◌+◌, ◌≤◌, ◌==◌, Bool, IsTrue, List, [], ◌∷◌, ◌++◌, reverse, Ok}
-use Rattle.std.specs.Prelude.{Err}
+use Rattle.std.specs.Prelude.{Err, IsOk, not}
 use Rattle.mps_base.specs.declared.action.Act.{Act}
 use Rattle.mps_base.specs.declared.action.Act.TheVariants.{Mark, Commit}
 use Rattle.mps_base.specs.declared.action.Step.{Step}
 use Rattle.mps_local.specs.Local.{LocalType}
 use Rattle.mps_history.specs.Steps.{IsIn, numbers, steps_of, within, without}
-use Rattle.mps_history.specs.Dependence.{DependsOn, dependents}
+use Rattle.mps_history.specs.Dependence.{DependsOn, consequences, dependents}
+use Rattle.mps_history.specs.Removals.{both_futures}
 use Rattle.mps_command.specs.declared.answer.Done.{Done}
-use Rattle.mps_command.specs.declared.answer.Refusal.TheVariants.{Final, Needed, NoMark}
+use Rattle.mps_command.specs.declared.answer.Refusal.TheVariants.{Final, Needed, NoMark, NoStep}
 use Rattle.mps_machine.specs.Machine.{State, forward, undo, undone, rollback, back, Request, after}
 
 -- no other step depends on step n, and without it the history is the old one
@@ -107,6 +108,30 @@ pub record RemovesFutures (st : State) : Type 0 where
   pub accepted : (p n : ℕ) (s : Step) → IsOwn st.history p n s → IsOpen st.history s
       → (ids : List ℕ) × ((rollback st p n).0 ≡ Ok ids)
   pub exactly : (p n : ℕ) (ids : List ℕ) → (rollback st p n).0 ≡ Ok ids → RemovedFuture p n ids st (rollback st p n).1
+
+-- of two undos that are accepted, of p's step m and of q's step n, either may come first
+pub record UndosCommute (st : State) : Type 0 where
+  -- where the steps are different, the second is accepted after the first too
+  pub accepted : (p q m n : ℕ) → IsOk (undo st p m).0 → IsOk (undo st q n).0 → m ≢ n
+      → IsOk (undo (undo st p m).1 q n).0
+  -- the same state is left in either order
+  pub either_order : (p q m n : ℕ) → IsOk (undo st p m).0 → IsOk (undo st q n).0
+      → (undo (undo st p m).1 q n).1 ≡ (undo (undo st q n).1 p m).1
+
+-- of two rollbacks, of p's step m and of q's step n, either may come first
+pub record RollbacksCommute (st : State) : Type 0 where
+  -- where both are accepted, the same state is left in either order
+  pub either_order : (p q m n : ℕ) → IsOk (rollback st p m).0 → IsOk (rollback st q n).0
+      → (rollback (rollback st p m).1 q n).1 ≡ (rollback (rollback st q n).1 p m).1
+  -- it has the steps that are neither m nor n and depend on neither, and the same next number
+  pub both : (p q m n : ℕ) → IsOk (rollback st p m).0 → IsOk (rollback st q n).0
+      → (rollback (rollback st p m).1 q n).1 ≡ record st { history = without st.history (both_futures st.history m n) }
+  -- where n survives, its rollback is accepted after that of m exactly where it is before
+  pub accepted : (p q m n : ℕ) → IsOk (rollback st p m).0 → IsTrue (not (consequences st.history m n))
+      → (IsOk (rollback (rollback st p m).1 q n).0 ↔ IsOk (rollback st q n).0)
+  -- where n is m or depends on it, it is gone, and nothing is left to do
+  pub gone : (p q m n : ℕ) → IsOk (rollback st p m).0 → IsTrue (consequences st.history m n)
+      → rollback (rollback st p m).1 q n ≡ (Err NoStep, (rollback st p m).1)
 
 -- of role p's surviving steps this one is the last mark of the name, and those after it are these, in order
 pub record IsLastMark (h : List Step) (p : ℕ) (name : List ℕ) (mark : Step) (behind : List Step) : Type 0 where

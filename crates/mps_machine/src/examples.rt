@@ -14,7 +14,8 @@ ghost use Rattle.mps_machine.specs.Examples.{AChoiceIsOfOnePeer, AnUnexpectedMes
 ghost use Rattle.mps_machine.specs.Examples.{ACommitStandsInTheWay, TheFirstReasonAgainstAnUndoIsTold};
 ghost use Rattle.mps_machine.specs.Examples.{ACommitLeavesTheStrangers, WhatCameAfterACommitCanBeUndone};
 ghost use Rattle.mps_machine.specs.Examples.{ACommitIsAllowedAtTheEnd, AnEmptyReturnIsNeverFinal};
-ghost use Rattle.mps_machine.specs.Examples.{TheLeastCommitIsNamed};
+ghost use Rattle.mps_machine.specs.Examples.{TheLeastCommitIsNamed, EitherRollbackMayComeFirst};
+ghost use Rattle.mps_machine.specs.Examples.{ADetourLeavesNoTrace, StrangersMayChangePlaces};
 
 /// What the machine answers in short sessions, as worked out by hand.
 pub fn worked_sessions()
@@ -50,4 +51,7 @@ pub fn worked_sessions()
     ensures a_commit_is_allowed_at_the_end { ACommitIsAllowedAtTheEnd }
     ensures an_empty_return_is_never_final { AnEmptyReturnIsNeverFinal }
     ensures the_least_commit_is_named { TheLeastCommitIsNamed }
+    ensures either_rollback_may_come_first { EitherRollbackMayComeFirst }
+    ensures a_detour_leaves_no_trace { ADetourLeavesNoTrace }
+    ensures strangers_may_change_places { StrangersMayChangePlaces }
 {}

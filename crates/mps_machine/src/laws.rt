@@ -5,20 +5,43 @@ ghost use Rattle.std.specs.List.{filter};
 ghost use Rattle.mps_base.specs.declared.action.Act.{Act};
 ghost use Rattle.mps_base.specs.declared.action.Step.{Step};
 ghost use Rattle.mps_command.specs.declared.command.Change.{Change};
+ghost use Rattle.mps_command.specs.declared.command.Forward.{Forward};
+ghost use Rattle.mps_command.specs.declared.command.Command.TheVariants as commands;
 ghost use Rattle.mps_local.specs.Local.{LocalType};
 ghost use Rattle.mps_history.specs.Steps.{IsIn, IsRising, sends, receives, unreceived, within, without};
 ghost use Rattle.mps_history.specs.Dependence.{depends_on, is_matched, consequences, IsClosed};
 ghost use Rattle.mps_history.specs.Swaps.{Swaps, is_matched_after};
 ghost use Rattle.mps_machine.specs.View.{View, opening};
-ghost use Rattle.mps_machine.specs.Rule.{rule, replay};
+ghost use Rattle.mps_machine.specs.Rule.{moved, rule, replay};
 ghost use Rattle.mps_machine.specs.Violations.{violation};
+ghost use Rattle.mps_machine.specs.Alike.{LooksAlike};
+ghost use Rattle.mps_machine.specs.Faults.{fault};
 ghost use Rattle.mps_machine.specs.Machine.{State, initial, Request, serve, after, view_of, IsSound};
 ghost use Rattle.mps_machine.specs.Undoing.{UndoesSteps, RefusesNeeded, RefusesFinal, RemovesFutures, ReturnsToMarks};
-ghost use Rattle.mps_machine.specs.Undoing.{KeepsCommits};
+ghost use Rattle.mps_machine.specs.Undoing.{UndosCommute, RollbacksCommute, KeepsCommits};
 
 /// The rule allows an act exactly where it has no violation.
 pub fn the_rule_is_defined()
     ensures { (v : View) (s : Step) → IsSome (rule v s) ↔ (violation v s.role s.act ≡ None) }
+{}
+
+/// A role's verdict depends on the place of its own type and on its own incoming queues alone, whatever the other roles
+/// did, and whatever they have before them: where two views look alike to it, its acts are allowed alike, fail for the
+/// same reason and take the same message, and the views look alike to it afterwards. What others do changes nothing
+/// for it, unless they give it something.
+pub fn a_verdict_is_local()
+    ensures violation { (v w : View) (p : ℕ) (act : Act) → LooksAlike p v w
+        → violation v p act ≡ violation w p act }
+    ensures allowed { (v w : View) (s : Step) → LooksAlike s.role v w → (IsSome (rule v s) ↔ IsSome (rule w s)) }
+    ensures taken { (v w : View) (p : ℕ) (act : Act) → LooksAlike p v w → moved v p act ≡ moved w p act }
+    ensures kept { (v w x y : View) (s : Step) → LooksAlike s.role v w → rule v s ≡ Some x → rule w s ≡ Some y
+        → LooksAlike s.role x y }
+    ensures unseen { (v w : View) (s : Step) (p : ℕ) → rule v s ≡ Some w → s.role ≢ p
+        → sends s.role p s ≡ false → LooksAlike p v w }
+    ensures answered { (types others : List LocalType) (st other : State) (p : ℕ) (step : Forward)
+        → LooksAlike p (view_of types st.history) (view_of others other.history)
+        → fault types st p (commands.Forward step)
+        ≡ fault others other p (commands.Forward step) }
 {}
 
 /// What was queued is what was sent and isn't yet received.
@@ -40,6 +63,13 @@ pub fn neighbours_commute()
         replay (opening types) (a ++ s ∷ t ∷ b) ≡ Some w → s.role ≢ t.role
         → is_matched_after a s t ≡ false
         → replay (opening types) (a ++ t ∷ s ∷ b) ≡ Some w }
+{}
+
+/// Steps of different roles that are both allowed may come in either order, and lead to one view (the square of
+/// concurrency theory). So no step of others takes away what a role may do.
+pub fn steps_of_different_roles_commute()
+    ensures { (v w x : View) (s t : Step) → rule v s ≡ Some w → rule v t ≡ Some x → s.role ≢ t.role
+        → (y : View) × (rule w t ≡ Some y) × (rule x s ≡ Some y) }
 {}
 
 /// Where no step of a history depends on s, the history without s has a replay too, and the rule allows s after it
@@ -107,6 +137,20 @@ pub fn a_commit_is_refused_as_final()
 /// on it.
 pub fn a_rollback_removes_the_causal_future()
     ensures { (types : List LocalType) (st : State) → IsSound types st → RemovesFutures st }
+{}
+
+/// Of two undos that are accepted, by any roles, either may come first: undos of different steps are independent, as
+/// Lanese, Phillips, Ulidowski ask of reversible computations (An axiomatic approach to reversible computation, FoSSaCS
+/// 2020).
+pub fn undos_commute()
+    ensures { (types : List LocalType) (st : State) → IsSound types st → UndosCommute st }
+{}
+
+/// Of two rollbacks that are accepted, by any roles, either may come first: the same state is left, without the steps
+/// and all that depend on them (confluence of rollbacks). Where the second step depends on the first, or is it, nothing
+/// is left to do.
+pub fn rollbacks_commute()
+    ensures { (types : List LocalType) (st : State) → IsSound types st → RollbacksCommute st }
 {}
 
 /// A return to a mark is a rollback of the role's first step after its last mark of the name, and removes nothing where

@@ -1,10 +1,12 @@
 //! When two histories lead to the same view.
-ghost use Rattle.std.specs.Prelude.{◌≡◌, ℕ, List, Some};
+ghost use Rattle.std.specs.Prelude.{◌≡◌, ◌↔◌, ℕ, List, Some};
 ghost use Rattle.mps_base.specs.declared.action.Step.{Step};
 ghost use Rattle.mps_local.specs.Local.{LocalType};
 ghost use Rattle.mps_history.specs.Swaps.{Swaps};
 ghost use Rattle.mps_machine.specs.View.{View, opening};
 ghost use Rattle.mps_machine.specs.Rule.{replay};
+ghost use Rattle.mps_machine.specs.Machine.{State, Request, view_of, IsSound};
+ghost use Rattle.mps_machine.specs.Runs.{survivors};
 
 /// Two histories that have a replay lead to the same view exactly where one becomes the other, numbers aside, by
 /// exchanges of neighbours of different roles of which the second doesn't receive what the first sends
@@ -26,4 +28,24 @@ pub fn equal_pasts_are_equal_views()
         ((p : ℕ) → (v.participant p).past ≡ (w.participant p).past) → v ≡ w }
     ensures pasts { (v w : View) (p : ℕ) → v ≡ w
         → (v.participant p).past ≡ (w.participant p).past }
+{}
+
+/// Two runs of any commands, undos, rollbacks and returns among them, come to the same exactly where their surviving
+/// steps are exchanges of each other (causal consistency: Danos, Krivine, CONCUR 2004). What was done and undone on the
+/// way leaves no trace.
+pub fn runs_agree_up_to_swaps()
+    ensures runs { (types : List LocalType) (requests others : List Request)
+        → (view_of types (survivors types requests) ≡ view_of types (survivors types others))
+        ↔ Swaps (survivors types requests) (survivors types others) }
+    ensures states { (types : List LocalType) (st other : State) → IsSound types st → IsSound types other
+        → ((view_of types st.history ≡ view_of types other.history) ↔ Swaps st.history other.history) }
+{}
+
+/// Of histories that have a replay, to be exchanges of each other is an equivalence.
+pub fn swaps_are_an_equivalence()
+    ensures reflexive { (h : List Step) → Swaps h h }
+    ensures symmetric { (types : List LocalType) (k h : List Step) (v : View)
+        → replay (opening types) k ≡ Some v → Swaps k h → Swaps h k }
+    ensures transitive { (types : List LocalType) (k h l : List Step) (v : View)
+        → replay (opening types) k ≡ Some v → Swaps k h → Swaps h l → Swaps k l }
 {}

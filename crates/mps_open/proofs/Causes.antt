@@ -1,13 +1,13 @@
 -- Why a text gives no session.
 use Rattle.std.proofs.Common.{ℕ, List}
 use Rattle.mps_global.specs.Global.{GlobalType}
-use Rattle.mps_session.specs.Protocols.{HasNoSession}
-use Rattle.mps_session.specs.declared.protocol.ProtocolFault.{ProtocolFault}
-use Rattle.mps_session.specs.declared.protocol.ProtocolFault.TheVariants.{Global, Unmergeable, Memory}
-use Rattle.mps_open.specs.Faults.{GivesNoSession, of_protocol}
+use Rattle.mps_open.specs.Faults.{GivesNoOpening, GivesNoSession}
 use Rattle.mps_open.specs.Texts.{IsProtocolText}
+use Rattle.mps_open.specs.declared.fault.Fault.{Fault}
+use Rattle.mps_open.specs.declared.fault.Fault.TheVariants.{Text, Protocol, Projection, Memory}
 
-pub no_session : (text : List ℕ) (roles : List (List ℕ)) (tree : GlobalType) (fault : ProtocolFault) → IsProtocolText text roles tree → HasNoSession roles tree fault → GivesNoSession text (of_protocol fault)
-no_session text roles tree (Global fault) read h = (roles, tree, read, h)
-no_session text roles tree (Unmergeable role choice) read h = (roles, tree, read, h.0, h.1)
+pub no_session : (text : List ℕ) (roles : List (List ℕ)) (tree : GlobalType) (fault : Fault) → IsProtocolText text roles tree → GivesNoOpening roles tree fault → GivesNoSession text fault
+no_session text roles tree (Text at kind) read h = absurd h
+no_session text roles tree (Protocol fault) read h = record { roles = roles; tree = tree; spelled = read; why = h }
+no_session text roles tree (Projection role name choice) read h = record { roles = roles; tree = tree; spelled = read; why = h }
 no_session text roles tree Memory read h = read.limits.short

@@ -1,1 +1,2 @@
+-- The lemmas of mps_open, a file each.
 mod Causes

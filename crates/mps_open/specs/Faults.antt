@@ -1,12 +1,10 @@
 -- Why a text gives no session.
-use Rattle.std.specs.Prelude.{◌≡◌, ℕ, ◌+◌, ◌≤◌, List, None, Some, length}
+use Rattle.std.specs.Prelude.{◌≡◌, ℕ, ◌+◌, ◌≤◌, List, None, Some, length, slice_get}
 use Rattle.mps_global.specs.Global.{GlobalType}
 use Rattle.mps_global.specs.Faults.{fault_of}
 use Rattle.mps_global.specs.declared.faults.GlobalFault.{GlobalFault}
 use Rattle.mps_global.specs.declared.faults.GlobalFault.TheVariants as of_protocols
 use Rattle.mps_local.specs.Outcome.{IsFirstUnmerged}
-use Rattle.mps_session.specs.declared.protocol.ProtocolFault.{ProtocolFault}
-use Rattle.mps_session.specs.declared.protocol.ProtocolFault.TheVariants as protocols
 use Rattle.mps_text.specs.Faults.{IsFirstFault}
 use Rattle.mps_text.specs.declared.fault.TextKind.{TextKind}
 use Rattle.mps_text.specs.declared.fault.TextKind.TheVariants as texts
@@ -19,27 +17,34 @@ abbrev pub IsTextFault : List ℕ → ℕ → TextKind → Type 0
 IsTextFault text at texts.Memory = ⊥
 IsTextFault text at kind = IsFirstFault text at kind
 
--- why a text gives no session: its first fault; the fault of the protocol that it spells; the first role of a protocol
--- without faults that has no projection, with the choice; or out of memory, where it is short enough
+-- why a protocol has no opening: its first fault; or it has none, and a role, the first, has no projection, or memory ran
+-- out; never a fault of a text
+abbrev pub GivesNoOpening : List (List ℕ) → GlobalType → Fault → Type 0
+GivesNoOpening roles tree (Text at kind) = ⊥
+GivesNoOpening roles tree (Protocol fault) = fault_of roles tree ≡ Some fault
+GivesNoOpening roles tree (Projection role name choice) =
+    (fault_of roles tree ≡ None) × IsFirstUnmerged roles tree role choice × (slice_get roles role ≡ Some name)
+GivesNoOpening roles tree Memory = fault_of roles tree ≡ None
+
+-- the text spells a protocol that has no opening
+pub record HasNoOpening (text : List ℕ) (fault : Fault) : Type 0 where
+  pub roles : List (List ℕ)
+  pub tree : GlobalType
+  pub spelled : IsProtocolText text roles tree
+  pub why : GivesNoOpening roles tree fault
+
+-- why a text gives no session: its first fault; the fault of the protocol that it spells, or its first role that has no
+-- projection, with the choice; or out of memory, where it is short enough
 abbrev pub GivesNoSession : List ℕ → Fault → Type 0
 GivesNoSession text (Text at kind) = IsTextFault text at kind
-GivesNoSession text (Protocol fault) =
-    (roles : List (List ℕ)) × (tree : GlobalType) × IsProtocolText text roles tree × (fault_of roles tree ≡ Some fault)
-GivesNoSession text (Projection role choice) =
-    (roles : List (List ℕ)) × (tree : GlobalType) × IsProtocolText text roles tree × (fault_of roles tree ≡ None)
-    × IsFirstUnmerged roles tree role choice
+GivesNoSession text (Protocol fault) = HasNoOpening text (Protocol fault)
+GivesNoSession text (Projection role name choice) = HasNoOpening text (Projection role name choice)
 GivesNoSession text Memory = length text ≤ 65536
 
 -- how a fault of a text is told
 abbrev pub of_text : ℕ → TextKind → Fault
 of_text at texts.Memory = Memory
 of_text at kind = Text at kind
-
--- how it is told why a protocol has no session
-abbrev pub of_protocol : ProtocolFault → Fault
-of_protocol (protocols.Global fault) = Protocol fault
-of_protocol (protocols.Unmergeable role choice) = Projection role choice
-of_protocol protocols.Memory = Memory
 
 -- The numbers of faults, from tables: in the order of the formats' tables.
 abbrev pub text_number : TextKind → ℕ
@@ -69,12 +74,12 @@ protocol_number of_protocols.Unguarded = 43
 abbrev pub number_of : Fault → ℕ
 number_of (Text at kind) = text_number kind
 number_of (Protocol fault) = protocol_number fault
-number_of (Projection role choice) = 48 + role
+number_of (Projection role name choice) = 48 + role
 number_of Memory = 1
 
 -- the byte of the text, or the choice
 abbrev pub place_of : Fault → ℕ
 place_of (Text at kind) = at
 place_of (Protocol fault) = 0
-place_of (Projection role choice) = choice
+place_of (Projection role name choice) = choice
 place_of Memory = 0

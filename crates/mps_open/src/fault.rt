@@ -1,11 +1,10 @@
 //! Why a text gives no session.
 ghost use Rattle.std.specs.Prelude.{◌≡◌};
-ghost use Rattle.mps_open.specs.declared.fault.Fault.TheVariants.{Memory as OutOfMemory};
-ghost use Rattle.mps_open.specs.Faults.{number_of, of_protocol, of_text, place_of, protocol_number, text_number};
+ghost use Rattle.mps_open.specs.declared.fault.Fault.TheVariants.{Memory as OutOfMemory, Protocol as InProtocol};
+ghost use Rattle.mps_open.specs.Faults.{number_of, of_text, place_of, protocol_number, text_number};
 
-use mps_base::Role;
+use mps_base::{Name, Role};
 use mps_global::GlobalFault;
-use mps_session::ProtocolFault;
 use mps_text::{TextFault, TextKind};
 use std::alloc::AllocError;
 use thiserror::Error;
@@ -15,14 +14,22 @@ use thiserror::Error;
 pub enum Fault {
     /// The text has this fault, the first one, at that byte.
     #[error("at byte {at}: {kind}")]
-    Text { at: usize, kind: TextKind },
+    Text {
+        at: usize,
+        kind: TextKind,
+    },
     /// The protocol has this fault, the first one.
     #[error("{0}")]
     Protocol(GlobalFault),
     /// The role, the first such, doesn't do the same in each branch of that choice of others. Choices are counted in
     /// preorder, from 0.
     #[error("the branches of choice {choice} differ for role {}, which takes no part in it", role.index())]
-    Projection { role: Role, choice: usize },
+    Projection {
+        role: Role,
+        /// The role's name.
+        name: Name,
+        choice: usize,
+    },
     /// Memory ran out.
     #[error("out of memory")]
     Memory,
@@ -47,21 +54,17 @@ impl From<TextFault> for Fault {
     }
 }
 
-impl From<ProtocolFault> for Fault {
-    ghost from_gives = { λ f fault. fault ≡ of_protocol f };
+impl From<GlobalFault> for Fault {
+    ghost from_gives = { λ f fault. fault ≡ InProtocol f };
 
-    fn from(fault: ProtocolFault) -> Fault {
-        match fault {
-            ProtocolFault::Global(fault) => Fault::Protocol(fault),
-            ProtocolFault::Unmergeable { role, choice } => Fault::Projection { role, choice },
-            ProtocolFault::Memory => Fault::Memory,
-        }
+    fn from(fault: GlobalFault) -> Fault {
+        Fault::Protocol(fault)
     }
 }
 
 impl Fault {
     /// Its number, for callers that have no enums: 1 for memory, 16 to 21 for a text, 32 to 43 for a protocol, and 48
-    /// and the place of the role, from 0, for a projection. Each in the order of docs/FORMATS.md.
+    /// plus the place of the role, from 0, for a projection. Each in the order of docs/FORMATS.md.
     pub fn number(&self) -> u32
         ensures { result ≡ number_of self.now }
     {

@@ -1,4 +1,4 @@
-//! From the text of a protocol to its roles and a new session of it.
+//! From the text of a protocol to what its sessions begin with, and to a new session.
 //!
 //! ```
 //! let (roles, session) = open_text(alloc, b"roles a b ; a -> b : int . end")?;
@@ -6,7 +6,7 @@
 #![tactic(auto)]
 
 pub mod fault;
-pub mod open;
+pub mod opening;
 
 pub use fault::Fault;
-pub use open::{open_text, roles_of};
+pub use opening::{Opening, open_text};

@@ -1,7 +1,20 @@
 -- From the faults of one step to those of all.
-use Rattle.std.proofs.Common.{◌≡◌, ℕ, List, Option, Result, Ok, Err, IsErrAnd, IfErr, sym, subst, inr}
+use Rattle.std.proofs.Common.{◌≡◌, ℕ, ◌≤◌, Bool, true, false, List, length, map, Option, Some, None, Result, Ok, Err, IsErrAnd, IfErr, sym, subst, inr}
+use Rattle.std.specs.Io.KnownBytes.{Consumes, IsAtEnd}
+use Rattle.mps_global.specs.Global.{plain as global_type}
+use Rattle.mps_local.specs.Local.{plain}
+use Rattle.mps_open.specs.Faults.{GivesNoSession}
+use Rattle.mps_open.specs.Texts.{AreTypesOf, IsProtocolText}
+use Rattle.mps_open.specs.declared.opening.Opening.{Opening}
+use Rattle.mps_open.specs.declared.fault.Fault.{Fault}
+use Rattle.mps_open.specs.declared.fault.Fault.TheVariants as opening
+use Rattle.mps_program.specs.Check.{GivesNoTypes, of_opening}
+use Rattle.mps_program.specs.Files.{longest}
+use Rattle.mps_program.specs.Streams.{HasGivenOpening}
+use Rattle.mps_program.specs.Faults.{as_told, without}
 use Rattle.mps_program.specs.Served.{IsOutFault, IsServeFault}
 use Rattle.mps_program.specs.declared.faults.ToolFault.{ToolFault}
+use Rattle.mps_program.specs.declared.faults.ToolFault.TheVariants.{Bind, File, JournalFile, Read}
 
 -- a fault that `?` hands on
 pub told : {A : Type 0} (r : Result A ToolFault) (P : ToolFault → Type 0) (e : ToolFault) → IsErrAnd r (λ x. x ≡ e) → P e → IfErr r P
@@ -13,3 +26,34 @@ pub server_fails : {A : Type 0} (r : Result A ToolFault) (file : List ℕ) (fold
 server_fails (Ok x) file folder folder' first first' n n' same number count h = tt
 server_fails (Err e) file folder folder' first first' n n' same number count h =
     inr (subst (λ (f : Option (List ℕ)). IsOutFault f first' n' e) same (subst (λ (k : ℕ). IsOutFault folder k n' e) number (subst (λ (k : ℕ). IsOutFault folder first k e) count h)))
+
+-- without what the system says of it a server's fault is one of the same kind
+bare_server : (file : List ℕ) (folder : Option (List ℕ)) (first n : ℕ) (fault : ToolFault) → IsServeFault file folder first n fault → IsServeFault file folder first n (without fault)
+bare_server file None first n (File name why) h = h
+bare_server file None first n (Read why) h = h
+bare_server file None first n (Bind why) h = h
+bare_server file None first n (JournalFile session why) h = h
+bare_server file (Some folder) first n (File name why) h = h
+bare_server file (Some folder) first n (Read why) h = h
+bare_server file (Some folder) first n (Bind why) h = h
+bare_server file (Some folder) first n (JournalFile session why) h = h
+bare_server file folder first n fault h = h
+
+pub server_told : {A : Type 0} (verbose : Bool) (done : Result A ToolFault) (file : List ℕ) (folder : Option (List ℕ)) (first n : ℕ) → IfErr done (IsServeFault file folder first n) → IfErr (as_told verbose done) (IsServeFault file folder first n)
+server_told true done file folder first n h = h
+server_told false (Ok x) file folder first n h = tt
+server_told false (Err fault) file folder first n h = bare_server file folder first n fault h
+
+-- why a text gives no session, as the program tells it
+pub no_types : (text : List ℕ) (why : Fault) → GivesNoSession text why → GivesNoTypes text (of_opening why)
+no_types text (opening.Text at kind) h = h
+no_types text (opening.Protocol fault) h = h
+no_types text (opening.Projection role name choice) h = (role, h)
+no_types text opening.Memory h = h
+
+-- a text that was given to its end, of this opening
+pub given_opening : (given left : Option (List ℕ)) (text : List ℕ) (o : Opening) → Consumes given left text → (length text ≤ longest → IsAtEnd left) → AreTypesOf text o.roles (map plain o.types.items) → IsProtocolText text o.protocol.roles.items (global_type o.protocol.body) → HasGivenOpening given left o
+given_opening given left text o bytes whole typed read = record {
+  loaded = record { text = text; bytes = bytes; over = whole typed.read.limits.short; typed = typed };
+  read = read;
+}

@@ -5,12 +5,13 @@ use Rattle.std.specs.List.{filter}
 use Rattle.std.proofs.lemmas.Bool.{cases_Bool, ne_eqb, eq-eqb}
 use Rattle.std.proofs.lemmas.List.Elements.{filter-append}
 use Rattle.std.proofs.Math.Nat.{mod-add-mod}
+use Rattle.mps_line.specs.Codes.{is_refusal}
 use Rattle.mps_lines.specs.Lines.{HasNoBreak, with_last}
 use Rattle.mps_lines.specs.Cuts.{Cut, cut}
 use Rattle.mps_lines.proofs.Cutting.{cut_line, cut_more, cut_rest, cut_splits}
 use Rattle.mps_lines.proofs.Splitting.{AllByRecursion-append}
 use Rattle.mps_program.specs.declared.tally.Tally.{Tally}
-use Rattle.mps_program.specs.Heard.{HasHeard, begun, is_refusal, refusals}
+use Rattle.mps_program.specs.Heard.{HasHeard, begun, refusals}
 use Rattle.mps_program.specs.Private.Heard.{IsHearing}
 
 -- what comes behind whole lines

@@ -1,3 +1,4 @@
+-- The lemmas of mps_program, a file each; other crates may use those with `pub`.
 pub mod Causes
 pub mod Comparing
 pub mod Lines

@@ -1,13 +1,15 @@
 -- What is passed on up to a refusal.
-use Rattle.std.proofs.Common.{◌≡◌, ℕ, zero, suc, ◌-◌, ◌<◌, ◌≤◌, ◌%◌, ◌^◌, true, false, Option, Some, None, List, [], ◌∷◌, ◌++◌, length, take, get_or, refl, sym, ap, subst, ◌∙◌, arith, add-one, length-append}
+use Rattle.std.proofs.Common.{◌≡◌, ℕ, zero, suc, ◌-◌, ◌<◌, ◌≤◌, ◌%◌, ◌^◌, true, false, Option, Some, None, Result, Ok, Err, List, [], ◌∷◌, ◌++◌, length, take, get_or, refl, sym, ap, subst, ◌∙◌, arith, add-one, length-append}
 use Rattle.std.specs.Prelude.{◌⊎◌, is_some}
 use Rattle.std.proofs.Common.{inl, inr}
 use Rattle.std.proofs.lemmas.Bool.{cases_Bool, cases_eq, cases_lt}
 use Rattle.std.proofs.lemmas.List.{take_all, take-take, take_more}
+use Rattle.mps_line.specs.Codes.{is_refusal}
 use Rattle.mps_lines.specs.Lines.{HasNoBreak, with_last}
 use Rattle.mps_lines.specs.Cuts.{Cut, cut}
 use Rattle.mps_lines.proofs.Splitting.{AllByRecursion-append}
-use Rattle.mps_program.specs.Heard.{EndsAtRefusal, begun, first_refusal, is_refusal, refusals, wrapped}
+use Rattle.mps_program.specs.Heard.{EndsAtRefusal, EndsStrictly, after_strict, begun, first_refusal, refusals, wrapped}
+use Rattle.mps_program.specs.declared.faults.ToolFault.{ToolFault}
 use Rattle.mps_program.proofs.Hearing.{cut_begun, cut_ended}
 
 -- at most the last is a refusal
@@ -155,3 +157,9 @@ none_named (Some k) e = absurd cc
 pub none_there : (o : Option ℕ) → is_some o ≡ false → None ≡ o
 none_there None e = refl
 none_there (Some k) e = absurd cc
+
+-- what a strict run comes to by the refusal that was passed on
+pub ends_strictly : {A : Type 0} (o : Option ℕ) (ran : Result A ToolFault) → EndsStrictly o (after_strict (wrapped o) ran)
+ends_strictly (Some k) ran = refl
+ends_strictly None (Ok x) = refl
+ends_strictly None (Err fault) = tt

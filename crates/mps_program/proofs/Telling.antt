@@ -1,18 +1,16 @@
 -- From the parts of what a server tells to the whole.
 use Rattle.std.proofs.Common.{◌≡◌, ◌≤◌, ℕ, zero, suc, ◌+◌, List, [], ◌∷◌, ◌++◌, Option, Some, None, Result, Ok, Err, IfErr, IsErrAnd, OnOk, length, get_or, refl, sym, ap, ◌∙◌, subst, arith, inl, inr}
 use Rattle.std.specs.Prelude.{All, slice_get}
-use Rattle.std.proofs.lemmas.Option.{slice_get_within, slice_get-get_or}
-use Rattle.std.proofs.lemmas.List.Elements.{All-get_or}
-use Rattle.mps_global.specs.Global.{GlobalType}
 use Rattle.mps_local.specs.Local.{LocalType}
 use Rattle.mps_room.specs.RoomState.{RoomState}
-use Rattle.mps_cell.specs.Cells.{Opened, opened_with}
+use Rattle.mps_machine.specs.Machine.{initial}
+use Rattle.mps_cell.specs.Cells.{Opened}
+use Rattle.mps_hub.proofs.Cells.{all_alike}
 use Rattle.mps_hub.specs.Halls.{AreCellsOf, AreCellsWith, AreClosed, Hall}
 use Rattle.mps_session.specs.SessionState.{SessionState}
-use Rattle.mps_session.proofs.SameProjections.{one_projection}
 use Rattle.mps_wire.proofs.Bytes.{Appends-none, Appends-trans}
 use Rattle.mps_program.specs.Served.{IsSessionLine, AreSessionLines, AreLinesUpTo, HasOpened, HasServed, HasServedUpTo, IfLost, IsTellFault, IsOutFault}
-use Rattle.mps_program.specs.Private.Served.{TookOne, TellsPort, IsHubFault, IsNewOf, of_serving}
+use Rattle.mps_program.specs.Private.Served.{TookOne, TellsPort, IsHubFault, of_serving}
 use Rattle.mps_program.specs.Journals.{IsRecordingFault, recorded_of}
 use Rattle.mps_hub.specs.Serving.{IsServeFaultOf}
 use Rattle.mps_hub.specs.declared.server.ServeFault.{ServeFault}
@@ -21,37 +19,13 @@ use Rattle.mps_program.specs.Faults.{after_writes, failed_writes}
 use Rattle.mps_program.specs.declared.faults.ToolFault.{ToolFault}
 use Rattle.mps_program.specs.declared.faults.ToolFault.TheVariants.{Write, Bind, Accept, Lost, Memory}
 
--- new sessions of a protocol have the same types
-same_types : (roles : List (List ℕ)) (tree : GlobalType) (s : SessionState) (sessions : List SessionState) (i : ℕ) (t : SessionState) → All (IsNewOf roles tree) (s ∷ sessions) → slice_get (s ∷ sessions) i ≡ Some t → t.types ≡ s.types
-same_types roles tree s sessions i t all at =
-    let here = new_at zero s refl in
-    let there = new_at i t at in
-    one_projection roles tree t.types s.types there.projected here.projected
-  where
-    new_at : (j : ℕ) (x : SessionState) → slice_get (s ∷ sessions) j ≡ Some x → IsNewOf roles tree x
-    new_at j x at =
-        let less = slice_get_within (s ∷ sessions) j x at in
-        let read = slice_get-get_or (s ∷ sessions) j s less in
-        let new = All-get_or (IsNewOf roles tree) (s ∷ sessions) j s less all in
-        let same : get_or (s ∷ sessions) j s ≡ x = cc in
-        subst (IsNewOf roles tree) same new
-
--- a hub of new sessions
-pub opened_hub : (roles names : List (List ℕ)) (tree : GlobalType) (first n : ℕ) (sessions : List SessionState) (hub : Hall) → All (IsNewOf roles tree) sessions → length sessions ≡ n → 1 ≤ n → names ≡ roles → hub.names ≡ names → hub.first ≡ first → AreCellsOf names first sessions hub.cells → HasOpened roles tree first n hub
-opened_hub roles names tree first n [] hub all count some same named number cells = absurd (omega (arith, count, some))
-opened_hub roles names tree first n (s ∷ sessions) hub all count some same named number cells =
-    let new = All-get_or (IsNewOf roles tree) (s ∷ sessions) zero s (omega arith) all in
+-- a hub of new sessions that are all alike
+pub opened_hub : (roles : List (List ℕ)) (types : List LocalType) (first n : ℕ) (sessions : List SessionState) (hub : Hall) → All (λ (s : SessionState). s ≡ record { types = types; state = initial }) sessions → length sessions ≡ n → hub.names ≡ roles → hub.first ≡ first → AreCellsOf roles first sessions hub.cells → HasOpened roles types first n hub
+opened_hub roles types first n sessions hub all count named number cells =
     record {
-      types = s.types;
-      projected = new.projected;
-      names = named ∙ same;
+      names = named;
       first_is = number;
-      cells = subst (λ (r : List (List ℕ)). AreCellsWith r s.types first n hub.cells) (sym named) (record {
-        count = cells.count ∙ count;
-        each = λ i o e. let was = cells.each i o e in
-            was.2 ∙ ap (λ (t : List LocalType). opened_with names t (first + i)) (same_types roles tree s sessions i was.0 all was.1);
-      });
-      one = new.one;
+      cells = subst (λ (r : List (List ℕ)). AreCellsWith r types first n hub.cells) (sym named) (all_alike roles types first n sessions hub.cells (record { types = types; state = initial }) all refl count cells);
     }
 
 pub on_ok : {A E : Type 0} (r : Result A E) (P Q : Type 0) → (P → Q) → OnOk r P → OnOk r Q

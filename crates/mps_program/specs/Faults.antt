@@ -1,6 +1,7 @@
 -- How faults are told.
-use Rattle.std.specs.Prelude.{◌+◌, ◌⊎◌, ⊤, ◌≡◌, ℕ, List, Option, None, Result, Ok, Err, codes, ◌++◌}
+use Rattle.std.specs.Prelude.{◌+◌, ◌⊎◌, ⊤, ◌≡◌, ℕ, Bool, true, false, List, Option, None, Some, Result, Ok, Err, codes, ◌++◌}
 use Rattle.std.specs.String.{string_bytes}
+use Rattle.std.specs.declared.io.Error.{Error}
 use Rattle.mps_base.specs.Numbers.{IsNumberText}
 use Rattle.mps_global.specs.declared.faults.GlobalFault.{GlobalFault}
 use Rattle.mps_global.specs.declared.faults.GlobalFault.TheVariants.{RoleCount, DoubleRole, TooManyNodes as ManyNodes}
@@ -15,7 +16,7 @@ use Rattle.mps_wire.specs.declared.script.ReplayFault.TheVariants.{Open as NotOp
 use Rattle.mps_wire.specs.declared.script.ReplayFault.TheVariants.{Turns as TooManyReads, Memory as OutOfMemory}
 use Rattle.mps_words.specs.declared.faults.UseFault.{UseFault}
 use Rattle.mps_words.specs.declared.faults.UseFault.TheVariants.{Usage as Misuse, Memory as NoMemory}
-use Rattle.mps_program.specs.Streams.{CantType, CantShow}
+use Rattle.mps_program.specs.Streams.{CantLoad, CantShow}
 use Rattle.mps_program.specs.declared.faults.ToolFault.{ToolFault}
 use Rattle.mps_program.specs.declared.faults.ToolFault.TheVariants.{Usage, File, Text, Protocol, Projection, Open, Read}
 use Rattle.mps_program.specs.declared.faults.ToolFault.TheVariants.{Write, Turns, Bind, Accept, Lost, JournalFile}
@@ -68,7 +69,7 @@ IsFaultLine line (Bind why) = line ≡ codes "refused bind"
 IsFaultLine line Accept = line ≡ codes "refused accept"
 IsFaultLine line (Lost session) =
     (number : List ℕ) × (line ≡ codes "refused lost " ++ number) × IsNumberText number session
-IsFaultLine line (JournalFile session) = IsJournalLine line session
+IsFaultLine line (JournalFile session why) = IsJournalLine line session
 IsFaultLine line (JournalLine session at) =
     (number : List ℕ) × (place : List ℕ) × (line ≡ codes "refused journal " ++ number ++ codes " " ++ place)
     × IsNumberText number session × IsNumberText place at
@@ -91,28 +92,40 @@ status_of Turns = 4
 status_of (Bind why) = 2
 status_of Accept = 4
 status_of (Lost session) = 4
-status_of (JournalFile session) = 2
+status_of (JournalFile session why) = 2
 status_of (JournalLine session at) = 3
 status_of JournalProtocol = 3
 status_of (JournalLost session) = 4
 status_of Memory = 4
 
--- the same fault, but for what the system says of it
-abbrev pub IsSameButForReasons : (fault told : ToolFault) → Type 0
-IsSameButForReasons (File name why) told = (other : _) × (told ≡ File name other)
-IsSameButForReasons (Read why) told = (other : _) × (told ≡ Read other)
-IsSameButForReasons (Bind why) told = (other : _) × (told ≡ Bind other)
-IsSameButForReasons fault told = told ≡ fault
+-- the fault without what the system says of it
+abbrev pub without : ToolFault → ToolFault
+without (File name why) = File name None
+without (Read why) = Read None
+without (Bind why) = Bind None
+without (JournalFile session why) = JournalFile session None
+without fault = fault
+
+-- the fault with what the system said where a read failed, if it said something
+abbrev pub told_with : Option Error → ToolFault → ToolFault
+told_with (Some why) (Read other) = Read (Some why)
+told_with why fault = fault
+
+-- the same fault, but for what the system says where a read failed
+abbrev pub IsSameButForReads : (fault told : ToolFault) → Type 0
+IsSameButForReads (Read why) told = (other : _) × (told ≡ Read other)
+IsSameButForReads fault told = told ≡ fault
+
+-- what was done, without what the system says of a fault unless more is to be told
+abbrev pub as_told : {A : Type 0} → (verbose : Bool) → Result A ToolFault → Result A ToolFault
+as_told true done = done
+as_told false (Ok x) = Ok x
+as_told false (Err fault) = Err (without fault)
 
 -- a fault of use, as the program tells it
 abbrev pub of_use : UseFault → ToolFault
 of_use (Misuse text) = Usage text
 of_use NoMemory = Memory
-
--- a fault of a text, as the program tells it
-abbrev pub of_text : ℕ → TextKind → ToolFault
-of_text at NoRoom = Memory
-of_text at kind = Text at kind
 
 -- why a script was not run to its end, as the program tells it
 abbrev pub of_script : ReplayFault → ToolFault
@@ -169,7 +182,7 @@ IsScriptFault script fault = IsFileFault script fault ⊎ IsBreak fault
 -- how the types of a protocol may fail to be had from this file: it can't be opened, or gives none
 abbrev pub IsLoadFault : List ℕ → ToolFault → Type 0
 IsLoadFault file fault =
-    IsFileFault file fault ⊎ ((given : Option (List ℕ)) × (left : Option (List ℕ)) × CantType given left fault)
+    IsFileFault file fault ⊎ ((given : Option (List ℕ)) × (left : Option (List ℕ)) × CantLoad given left fault)
 
 -- how a run of these two files may fail: the first gives no types, or the script fails to be run
 abbrev pub IsRunFault : List ℕ → List ℕ → ToolFault → Type 0

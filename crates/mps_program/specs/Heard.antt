@@ -1,15 +1,12 @@
 -- What was heard of the answers to a script, and what a clause reads of a strict sink.
-use Rattle.std.specs.Prelude.{◌≡◌, ◌==◌, ◌+◌, ◌%◌, ◌^◌, ◌<◌, ◌↔◌, ℕ, if◌then◌else◌, Bool, false, IsTrue, Option, Some, None, Result, Ok, Err, List, [], ◌∷◌, length, take}
+use Rattle.std.specs.Prelude.{◌≡◌, ◌+◌, ◌%◌, ◌^◌, ◌<◌, ◌↔◌, ℕ, if◌then◌else◌, IsTrue, Option, Some, None, Result, Ok, Err, IfOk, List, [], ◌∷◌, length, take}
 use Rattle.std.specs.List.{filter}
+use Rattle.mps_line.specs.Codes.{is_refusal}
 use Rattle.mps_lines.specs.Lines.{with_last}
 use Rattle.mps_lines.specs.Cuts.{cut}
+use Rattle.mps_program.specs.declared.faults.ToolFault.{ToolFault}
 use Rattle.mps_program.specs.declared.tally.Tally.{Tally}
 use Rattle.mps_program.specs.declared.tally.Strict.{Strict}
-
--- the line is a refusal: of all answers only refusals begin with an r
-abbrev pub is_refusal : List ℕ → Bool
-is_refusal [] = false
-is_refusal (c ∷ line) = c == 114
 
 -- how many of the lines are refusals
 abbrev pub refusals : List (List ℕ) → ℕ
@@ -67,3 +64,14 @@ taken_by (Err e) bytes = []
 abbrev pub late_after : Option ℕ → ℕ → ℕ
 late_after None late = late
 late_after (Some k) late = late + 1
+
+-- what comes of a strict run: the status 1 where this line was refused, and else 0, where the script ran to its end
+abbrev pub after_strict : {A : Type 0} → Option ℕ → Result A ToolFault → Result ℕ ToolFault
+after_strict (Some line) ran = Ok 1
+after_strict None (Ok x) = Ok 0
+after_strict None (Err fault) = Err fault
+
+-- a strict run ends with 1 where this line was refused, and else with 0, or a fault
+abbrev pub EndsStrictly : Option ℕ → Result ℕ ToolFault → Type 0
+EndsStrictly (Some line) done = done ≡ Ok 1
+EndsStrictly None done = IfOk done (λ status. status ≡ 0)

@@ -1,11 +1,9 @@
 -- How the sessions of a server may fail to be had from a folder.
 use Rattle.std.specs.Prelude.{◌≡◌, ◌⊎◌, ⊤, ℕ, List, Option, None, Some}
 use Rattle.mps_hub.specs.Places.{IsSession}
-use Rattle.mps_hub.specs.declared.restoring.SessionFault.{SessionFault}
-use Rattle.mps_hub.specs.declared.restoring.SessionFault.TheVariants.{Taken, Journal, Memory as NoMemory}
-use Rattle.mps_keeper.specs.declared.restore.RestoreFault.TheVariants.{Read as NotRead, Memory as OutOfMemory, Line}
-use Rattle.mps_keeper.specs.declared.restore.Unaccepted.{Unaccepted}
-use Rattle.mps_keeper.specs.declared.restore.Unaccepted.TheVariants.{Memory as Starved}
+use Rattle.mps_keeper.specs.declared.restore.RestoreFault.{RestoreFault}
+use Rattle.mps_keeper.specs.declared.restore.RestoreFault.TheVariants.{Read as NotRead, Memory as OutOfMemory, Taken}
+use Rattle.mps_keeper.specs.declared.restore.RestoreFault.TheVariants.{Unreadable, Refused}
 use Rattle.mps_program.specs.declared.faults.ToolFault.{ToolFault}
 use Rattle.mps_program.specs.declared.faults.ToolFault.TheVariants.{File, JournalFile, JournalLine, JournalProtocol}
 use Rattle.mps_program.specs.declared.faults.ToolFault.TheVariants.{JournalLost, Memory}
@@ -19,7 +17,7 @@ IsFolderFault folder fault = ⊥
 
 -- how the journal of this session may fail
 abbrev pub IsOneFault : ℕ → ToolFault → Type 0
-IsOneFault session (JournalFile k) = k ≡ session
+IsOneFault session (JournalFile k why) = k ≡ session
 IsOneFault session (JournalLine k line) = k ≡ session
 IsOneFault session (JournalLost k) = k ≡ session
 IsOneFault session Memory = ⊤
@@ -27,7 +25,7 @@ IsOneFault session fault = ⊥
 
 -- how the journals of so many sessions from this one on may fail
 abbrev pub IsFileFaultOf : (first n : ℕ) → ToolFault → Type 0
-IsFileFaultOf first n (JournalFile session) = IsSession first n session
+IsFileFaultOf first n (JournalFile session why) = IsSession first n session
 IsFileFaultOf first n (JournalLine session line) = IsSession first n session
 IsFileFaultOf first n (JournalLost session) = IsSession first n session
 IsFileFaultOf first n Memory = ⊤
@@ -37,18 +35,13 @@ IsFileFaultOf first n fault = ⊥
 abbrev pub IsJournalFault : List ℕ → (first n : ℕ) → ToolFault → Type 0
 IsJournalFault folder first n fault = IsFolderFault folder fault ⊎ IsFileFaultOf first n fault
 
--- why a line was not accepted, as the program tells it of its session
-abbrev pub IsLineFaultOf : ℕ → ℕ → Unaccepted → ToolFault → Type 0
-IsLineFaultOf session line Starved fault = fault ≡ Memory
-IsLineFaultOf session line why fault = fault ≡ JournalLine session line
-
 -- why a session was not restored, as the program tells it
-abbrev pub IsRestoreFaultOf : ℕ → SessionFault → ToolFault → Type 0
-IsRestoreFaultOf session NoMemory fault = fault ≡ Memory
-IsRestoreFaultOf session Taken fault = fault ≡ JournalLost session
-IsRestoreFaultOf session (Journal OutOfMemory) fault = fault ≡ Memory
-IsRestoreFaultOf session (Journal NotRead) fault = fault ≡ JournalLost session
-IsRestoreFaultOf session (Journal (Line at)) fault = IsLineFaultOf session at.line at.fault fault
+abbrev pub of_restoring : ℕ → RestoreFault → ToolFault
+of_restoring session NotRead = JournalLost session
+of_restoring session Taken = JournalLost session
+of_restoring session OutOfMemory = Memory
+of_restoring session (Unreadable line) = JournalLine session line
+of_restoring session (Refused line) = JournalLine session line
 
 -- how many of so many sessions are recorded, by the folder, if there is one
 abbrev pub recorded_of : Option (List ℕ) → ℕ → ℕ

@@ -7,5 +7,6 @@ pub mod Files
 pub mod Journals
 pub mod Served
 pub mod Streams
+pub mod Until
 pub mod Watched
 pub mod Private

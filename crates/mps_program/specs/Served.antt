@@ -6,23 +6,17 @@ use Rattle.mps_base.specs.Numbers.{IsNumberText}
 use Rattle.mps_room.specs.RoomState.{RoomState}
 use Rattle.mps_cell.specs.Cells.{Opened}
 use Rattle.mps_hub.specs.Halls.{AreCellsWith, AreClosed, Hall}
-use Rattle.mps_global.specs.Global.{GlobalType}
 use Rattle.mps_local.specs.Local.{LocalType}
-use Rattle.mps_local.specs.Outcome.{AreProjections}
-use Rattle.mps_fidelity.specs.Fidelity.{AreOfOneProtocol}
 use Rattle.mps_program.specs.Faults.{IsLoadFault}
 use Rattle.mps_program.specs.Journals.{IsRecordingFault}
 use Rattle.mps_program.specs.declared.faults.ToolFault.{ToolFault}
 use Rattle.mps_program.specs.declared.faults.ToolFault.TheVariants.{Write, Bind, Accept, Lost, Memory}
 
--- the hub has so many new sessions of the protocol, numbered from this number on
-pub record HasOpened (roles : List (List ℕ)) (tree : GlobalType) (first n : ℕ) (hub : Hall) : Type 0 where
-  pub types : List LocalType
-  pub projected : AreProjections roles tree types
+-- the hub has so many new sessions of these roles and types, numbered from this number on
+pub record HasOpened (roles : List (List ℕ)) (types : List LocalType) (first n : ℕ) (hub : Hall) : Type 0 where
   pub names : hub.names ≡ roles
   pub first_is : hub.first ≡ first
   pub cells : AreCellsWith hub.names types first n hub.cells
-  pub one : AreOfOneProtocol types
 
 -- the port of a listener that was to have this one, where 0 is any that is free
 abbrev pub IsPortFor : (wanted port : ℕ) → Type 0

@@ -1,40 +1,31 @@
-//! From a protocol to the lines that show its roles' types.
-ghost use Rattle.std.specs.Prelude.{◌≡◌, ◌+◌, ◌<◌, ◌≤◌, ◌^◌, ◌++◌, length, map, IfOk, IfErr, OnOk, None};
+//! The lines that show the types of a protocol's roles.
+ghost use Rattle.std.specs.Prelude.{◌≡◌, ◌+◌, ◌<◌, ◌≤◌, ◌^◌, ◌++◌, length, map, IfOk, IfErr, OnOk};
 ghost use Rattle.std.specs.Io.KnownBytes.{Appends};
 ghost use Rattle.std.specs.List.{AllByRecursion};
-ghost use Rattle.mps_global.specs.Global.{plain as global_type};
-ghost use Rattle.mps_global.specs.Faults.{fault_of};
 ghost use Rattle.mps_local.specs.Local.{plain};
 ghost use Rattle.mps_local.specs.Shape.{AllPeers};
-ghost use Rattle.mps_program.specs.Check.{role_line, role_lines, AreLinesOf, GivesNoTypes};
+ghost use Rattle.mps_program.specs.Check.{role_line, role_lines};
 ghost use Rattle.mps_program.specs.Faults.{after_reads, after_writes, IsCheckFault};
 ghost use Rattle.mps_program.specs.Files.{HasReadAtMost, most_read};
 ghost use Rattle.mps_program.specs.Streams.{CantShow, HasShown};
 
 use crate::faults::ToolFault;
 use crate::files::{open_file, say_why, tell};
-use crate::load::{load_protocol, types_of};
+use crate::load::load_opening;
 use mps_base::{Role, Roles};
 use mps_dev::{OverWrite, Sink, Source};
-use mps_global::Protocol;
 use mps_local::{Local, write_local};
-use mps_open::roles_of;
+use mps_open::Opening;
 use std::alloc::{AllocError, Global};
 use std::io;
 use std::rt::Files;
 
-/// A line for each role of a protocol without faults: its name, ` : `, and its local type.
-pub fn lines_of<'a>(alloc: Global, protocol: &Protocol) -> Result<Vec<u8>, ToolFault<'a>>
-    requires { fault_of protocol.now.roles.items (global_type protocol.now.body) ≡ None }
-    ensures lines { IfOk result (λ out. AreLinesOf
-        protocol.now.roles.items (global_type protocol.now.body) out.items) }
-    ensures fault { IfErr result
-        (GivesNoTypes protocol.now.roles.items (global_type protocol.now.body)) }
+/// A line for each role: its name, ` : `, and its local type.
+pub fn lines_of(alloc: Global, opening: &Opening) -> Result<Vec<u8>, AllocError>
+    ensures { IfOk result (λ out. out.items ≡ role_lines opening.now.roles 0 (map plain opening.now.types.items)) }
 {
-    let types = types_of(alloc, protocol)?;
-    let roles = roles_of(alloc, protocol)?;
     let mut out = Vec::new(alloc);
-    write_lines(alloc, &mut out, &roles, 0, &types)?;
+    write_lines(alloc, &mut out, &opening.roles, 0, &opening.types)?;
     Ok(out)
 }
 
@@ -102,8 +93,8 @@ pub fn write_types<'a, R: Source, W: Sink>(
     ensures reads { R.failed_calls reader.new ≡ after_reads result (R.failed_calls reader.old) }
     ensures writes { W.failed_calls writer.new ≡ after_writes result (W.failed_calls writer.old) }
 {
-    let protocol = load_protocol(alloc, reader)?;
-    let lines = lines_of(alloc, &protocol)?;
+    let opening = load_opening(alloc, reader)?;
+    let lines = lines_of(alloc, &opening)?;
     tell(writer, lines.as_slice())
 }
 

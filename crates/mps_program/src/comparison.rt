@@ -5,11 +5,11 @@ ghost use Rattle.mps_machine.specs.Machine.{initial};
 ghost use Rattle.mps_program.specs.Compared.{CantCompare, HasCompared, HasRun, HasStopped, Tells, unheard};
 ghost use Rattle.mps_program.specs.Private.Compared.{CantFollow, HasFollowed};
 ghost use Rattle.mps_program.specs.Faults.{IsCompareFault, IsFileFault, IsScriptsFault};
-ghost use Rattle.mps_wire.specs.Runs.{max_reads};
+ghost use Rattle.mps_dev.specs.Reads.{max_reads};
 
 use crate::faults::ToolFault;
 use crate::files::{OpenScript, open_script, say_why, tell};
-use crate::load::{load_file, open_session};
+use crate::load::load_file;
 use crate::tally::Tally;
 use mps_base::Roles;
 use mps_dev::{OverWrite, Source};
@@ -200,8 +200,8 @@ pub fn compare_files<'a, R: Files + Input + AllocGlobal + Print + Eprint>(
     ensures status { IfOk result (λ status. status ≤ 1) }
     ensures fault { IfErr result (IsCompareFault file.now script.now other.now) }
 {
-    let protocol = load_file(rt, file)?;
-    let (roles, first) = open_session(rt.alloc(), &protocol)?;
-    let (_, second) = open_session(rt.alloc(), &protocol)?;
+    let opening = load_file(rt, file)?;
+    let first = opening.session(rt.alloc())?;
+    let (roles, second) = opening.into_session(rt.alloc())?;
     compare_scripts(rt, &roles, first, second, script, other, verbose)
 }

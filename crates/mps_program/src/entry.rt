@@ -1,13 +1,13 @@
 //! What the program does, from its words to its exit status.
-ghost use Rattle.std.specs.Prelude.{◌≡◌, ◌≢◌, ◌≤◌, ◌⊎◌, Ok, Err, IfErr, IfOk};
+ghost use Rattle.std.specs.Prelude.{◌≡◌, ◌≢◌, ◌≤◌, IfErr, IfOk, false};
 ghost use Rattle.std.specs.Process.{exit_status};
 ghost use Rattle.mps_program.specs.Ends.{EndsAs, IsObeyed, status_after};
-ghost use Rattle.mps_program.specs.Faults.{IsSameButForReasons, status_of};
+ghost use Rattle.mps_program.specs.Faults.{status_of, without};
 ghost use Rattle.mps_program.specs.declared.faults.ToolFault.TheVariants.{Open as NoSession};
 
 use crate::check::check_file;
 use crate::comparison::compare_files;
-use crate::faults::{ToolFault, fault_line, reason_of, status, without_reason};
+use crate::faults::{ToolFault, fault_line, reason_of, status, told};
 use crate::files::closed_streams;
 use crate::running::run_file;
 use crate::serving::{Service, serve_file};
@@ -22,20 +22,6 @@ use std::thread::Threads;
 use std::time::{Clock, Duration};
 use std::{io, str};
 
-// What was done, with what the system says of a fault where more is to be told.
-fn told<'a>(done: Result<u8, ToolFault<'a>>, verbose: bool) -> Result<u8, ToolFault<'a>>
-    ensures ok { IfOk result (λ status. done.entry ≡ Ok status) }
-    ensures err { IfErr result (λ told. (fault : _) × (done.entry ≡ Err fault)
-        × (told ≡ fault ⊎ IsSameButForReasons fault told)) }
-    ensures opened { IfErr done.entry (λ fault. fault ≢ NoSession) → IfErr result (λ fault. fault ≢ NoSession) }
-{
-    match done {
-        Ok(status) => Ok(status),
-        Err(fault) if verbose => Err(fault),
-        Err(fault) => Err(without_reason(fault)),
-    }
-}
-
 /// Carries out a task, and gives the exit status: 1 where two scripts differ, or a strict run met a refusal, else 0.
 /// Where more is to be told (`verbose`), a fault says what the system says of it, and standard error is told of the lines
 /// of scripts.
@@ -46,6 +32,7 @@ pub fn carry_out<'a, R: Files + Input + AllocGlobal + Print + Eprint>(
 ) -> Result<u8, ToolFault<'a>>
     ensures status { IfOk result (λ status. status ≤ 1) }
     ensures opened { IfErr result (λ fault. fault ≢ NoSession) }
+    ensures quiet { verbose ≡ false → IfErr result (λ fault. without fault ≡ fault) }
 {
     told(work_on(rt, task, verbose), verbose)
 }
@@ -122,10 +109,8 @@ pub fn obey<
                 limits,
                 journal,
             };
-            match serve_file(rt, file, service, verbose) {
-                Ok(()) => Ok(0),
-                Err(fault) => told(Err(fault), verbose),
-            }
+            serve_file(rt, file, service, verbose)?;
+            Ok(0)
         }
         Order::Offline { task, verbose } => carry_out(rt, task, verbose),
     }

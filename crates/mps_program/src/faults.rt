@@ -1,22 +1,22 @@
 //! What the program says when it can't go on.
-ghost use Rattle.std.specs.Prelude.{◌≡◌, OnOk, IfOk};
+ghost use Rattle.std.specs.Prelude.{◌≡◌, ◌≢◌, Ok, OnOk, IfOk, IfErr, false};
 ghost use Rattle.mps_base.specs.Appends.{AppendsSuch};
-ghost use Rattle.mps_program.specs.Faults.{IsFaultLine, IsSameButForReasons, of_script, of_text, of_use, protocol_word, status_of};
-ghost use Rattle.mps_program.specs.Faults.{text_word};
-ghost use Rattle.mps_program.specs.declared.faults.ToolFault.TheVariants.{Memory as OutOfMemory};
-ghost use Rattle.mps_program.specs.declared.faults.ToolFault.TheVariants.{Protocol as OfProtocol};
+ghost use Rattle.mps_program.specs.Check.{of_opening};
+ghost use Rattle.mps_program.specs.Faults.{IsFaultLine, IsSameButForReads, as_told, of_script, of_use, protocol_word, status_of};
+ghost use Rattle.mps_program.specs.Faults.{text_word, told_with, without};
+ghost use Rattle.mps_program.specs.declared.faults.ToolFault.TheVariants.{Memory as OutOfMemory, Open as NoSession};
 
 use mps_base::{Name, write_number};
 use mps_global::GlobalFault;
-use mps_text::{TextFault, TextKind};
+use mps_open::Fault;
+use mps_text::TextKind;
 use mps_wire::script::ReplayFault;
 use mps_words::UseFault;
 use std::alloc::{AllocError, AllocFailed, Global};
 use std::io;
 use thiserror::Error;
 
-/// Why the program didn't do what it was told. What it displays as is its line, which `fault_line`
-/// spells.
+/// Why the program didn't do what it was told. It is displayed as its line, the one that `fault_line` gives.
 #[derive(Debug, Drop, Error)]
 pub enum ToolFault<'a> {
     /// The words are none of the program's; the text says how to use it.
@@ -24,7 +24,7 @@ pub enum ToolFault<'a> {
     Usage {
         text: String,
     },
-    /// The file can't be opened; why, as the system says it.
+    /// The file can't be opened, or the folder can't be used; why, as the system says it.
     #[error("refused file {name}")]
     File {
         name: &'a str,
@@ -74,10 +74,11 @@ pub enum ToolFault<'a> {
     Lost {
         session: u64,
     },
-    /// The journal of a session can't be opened, or another process has it.
+    /// The journal of a session can't be opened, or another process has it; why, as the system says it.
     #[error("refused journal {session}")]
     JournalFile {
         session: u64,
+        why: Option<io::Error>,
     },
     /// That line of a session's journal, counted from 1, is unreadable, or its command isn't accepted.
     #[error("refused journal {session} {line}")]
@@ -88,7 +89,8 @@ pub enum ToolFault<'a> {
     /// The folder has sessions of another protocol.
     #[error("refused journal protocol")]
     JournalProtocol,
-    /// The journal of a session can't be read, or lines of it were lost.
+    /// The journal of a session can't be read, cut or written, or lines of it were lost; or a pass of the session is in
+    /// use.
     #[error("refused journal {session}")]
     JournalLost {
         session: u64,
@@ -125,22 +127,16 @@ impl From<UseFault> for ToolFault<'_> {
     }
 }
 
-impl From<TextFault> for ToolFault<'_> {
-    ghost from_gives = { λ f fault. fault ≡ of_text f.at f.kind };
+impl From<Fault> for ToolFault<'_> {
+    ghost from_gives = { λ f fault. fault ≡ of_opening f };
 
-    fn from(fault: TextFault) -> Self {
-        match fault.kind {
-            TextKind::Memory => ToolFault::Memory,
-            kind => ToolFault::Text { at: fault.at, kind },
+    fn from(fault: Fault) -> Self {
+        match fault {
+            Fault::Text { at, kind } => ToolFault::Text { at, kind },
+            Fault::Protocol(fault) => ToolFault::Protocol { fault },
+            Fault::Projection { name, choice, .. } => ToolFault::Projection { role: name, choice },
+            Fault::Memory => ToolFault::Memory,
         }
-    }
-}
-
-impl From<GlobalFault> for ToolFault<'_> {
-    ghost from_gives = { λ f fault. fault ≡ OfProtocol f };
-
-    fn from(fault: GlobalFault) -> Self {
-        ToolFault::Protocol { fault }
     }
 }
 
@@ -198,8 +194,7 @@ fn protocol_word_of(fault: GlobalFault) -> &'static str
     }
 }
 
-/// The line that tells the fault, without a line break. What is said of the words may have several
-/// lines.
+/// The line that tells the fault, without a line break at its end. What is said of the words may be several lines.
 pub fn fault_line(alloc: Global, fault: &ToolFault<'_>) -> Result<Vec<u8>, AllocError>
     ensures { IfOk result (λ line. IsFaultLine line.items fault.now) }
 {
@@ -245,7 +240,7 @@ fn write_line(fault: &ToolFault<'_>, out: &mut Vec<u8>) -> Result<(), AllocError
             out.extend_from_slice(b"refused lost ")?;
             write_number(*session, out)
         }
-        ToolFault::JournalFile { session } | ToolFault::JournalLost { session } => {
+        ToolFault::JournalFile { session, .. } | ToolFault::JournalLost { session } => {
             out.extend_from_slice(b"refused journal ")?;
             write_number(*session, out)
         }
@@ -260,35 +255,54 @@ fn write_line(fault: &ToolFault<'_>, out: &mut Vec<u8>) -> Result<(), AllocError
     }
 }
 
-/// What the system says of a fault of a file or of the port.
+/// What the system says of a fault of a file, of the port or of a journal.
 pub(crate) fn reason_of<'f>(fault: &'f ToolFault<'_>) -> Option<&'f io::Error> {
     match fault {
         ToolFault::File { why, .. } => why.as_ref(),
         ToolFault::Read { why } => why.as_ref(),
         ToolFault::Bind { why } => why.as_ref(),
+        ToolFault::JournalFile { why, .. } => why.as_ref(),
         _ => None,
     }
 }
 
 /// The fault without what the system says of it.
 pub(crate) fn without_reason<'a>(fault: ToolFault<'a>) -> ToolFault<'a>
-    ensures { IsSameButForReasons fault.entry result }
+    ensures without { result ≡ without fault.entry }
+    ensures bare { without result ≡ result }
+    ensures opened { fault.entry ≢ NoSession → result ≢ NoSession }
 {
     match fault {
         ToolFault::File { name, .. } => ToolFault::File { name, why: None },
         ToolFault::Read { .. } => ToolFault::Read { why: None },
         ToolFault::Bind { .. } => ToolFault::Bind { why: None },
+        ToolFault::JournalFile { session, .. } => ToolFault::JournalFile { session, why: None },
         fault => fault,
     }
 }
 
 /// The fault, with what the system said where a read failed, if it said something.
 pub(crate) fn with_reason<'a>(fault: ToolFault<'a>, why: Option<io::Error>) -> ToolFault<'a>
-    ensures { IsSameButForReasons fault.entry result }
+    ensures said { result ≡ told_with why fault.entry }
+    ensures same { IsSameButForReads fault.entry result }
 {
     match (fault, why) {
         (ToolFault::Read { .. }, Some(why)) => ToolFault::Read { why: Some(why) },
         (fault, _) => fault,
+    }
+}
+
+/// What was done. A fault says what the system says of it only where more is to be told (`verbose`).
+pub(crate) fn told<'a, T>(done: Result<T, ToolFault<'a>>, verbose: bool) -> Result<T, ToolFault<'a>>
+    ensures told { result ≡ as_told verbose done.entry }
+    ensures ok { IfOk result (λ x. done.entry ≡ Ok x) }
+    ensures opened { IfErr done.entry (λ fault. fault ≢ NoSession) → IfErr result (λ fault. fault ≢ NoSession) }
+    ensures quiet { verbose ≡ false → IfErr result (λ fault. without fault ≡ fault) }
+{
+    match done {
+        Ok(value) => Ok(value),
+        Err(fault) if verbose => Err(fault),
+        Err(fault) => Err(without_reason(fault)),
     }
 }
 

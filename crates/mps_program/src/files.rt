@@ -2,7 +2,7 @@
 ghost use Rattle.std.specs.Prelude.{◌≡◌, ◌+◌, ◌<◌, ◌≤◌, ◌^◌, ◌++◌, ℕ, List, length, Ok, Err, IfOk, IfErr, OnErr, OnOk};
 ghost use Rattle.mps_dev.specs.Standard.{calls_of};
 ghost use Rattle.std.specs.Io.KnownBytes.{Appends, Consumes, IsAtEnd};
-ghost use Rattle.mps_program.specs.Faults.{IsFileFault, IsReadFault, IsSameButForReasons, after_writes};
+ghost use Rattle.mps_program.specs.Faults.{IsFileFault, IsReadFault, IsSameButForReads, after_writes, told_with};
 ghost use Rattle.mps_program.specs.Files.{HasReadAtMost, longest, most_read};
 ghost use Rattle.mps_program.specs.declared.faults.ToolFault.TheVariants.{Write as NotWritten};
 ghost use Rattle.mps_wire.specs.Sending.{TookFront};
@@ -104,7 +104,8 @@ pub(crate) fn say_why<'a, T, R: Drop>(
     reader: OverRead<Noted<R>>,
 ) -> Result<T, ToolFault<'a>>
     ensures ok { IfOk result (λ x. done.entry ≡ Ok x) }
-    ensures err { IfErr result (λ told. (fault : _) × (done.entry ≡ Err fault) × IsSameButForReasons fault told) }
+    ensures err { IfErr result (λ told. (fault : _) × (done.entry ≡ Err fault) × IsSameButForReads fault told) }
+    ensures said { IfErr result (λ told. (fault : _) × (why : _) × (done.entry ≡ Err fault) × (told ≡ told_with why fault)) }
 {
     let Noted { reader: _, why } = reader.into_inner();
     match done {

@@ -2,12 +2,12 @@
 ghost use Rattle.std.specs.Prelude.{◌≡◌, ◌+◌, ◌<◌, ◌≤◌, ◌^◌, ℕ, IfErr, IfOk, length};
 ghost use Rattle.mps_hub.specs.Places.{IsSession};
 ghost use Rattle.mps_program.specs.Journals.{IsFolderFault, IsFileFaultOf, IsJournalFault, IsOneFault};
-ghost use Rattle.mps_program.specs.Journals.{IsRestoreFaultOf};
+ghost use Rattle.mps_program.specs.Journals.{of_restoring};
 
 use crate::faults::ToolFault;
 use mps_dev::{OverRead, OverWrite};
-use mps_hub::{Desk, SessionFault};
-use mps_keeper::{Book, Keeper, NotRestored, RestoreFault, Restored, Unaccepted};
+use mps_hub::Desk;
+use mps_keeper::{Book, Keeper, RestoreFault, Restored};
 use mps_words::JournalFolder;
 use std::alloc::Global;
 use std::fs::{DirBuilder, File};
@@ -100,14 +100,17 @@ fn file_bytes<R: Files + AllocGlobal>(rt: &R, path: &str) -> io::Result<Vec<u8>>
 }
 
 // Opens a journal to be read and added to, for its owner alone, and locks it.
-fn open_journal<R: Files<File = File>>(rt: &R, path: &str) -> Option<File> {
+fn open_journal<R: Files<File = File>>(rt: &R, path: &str) -> io::Result<File> {
     let mut options = File::options();
     options.read(true).append(true).create(true).mode(0o600);
-    let file = options.open(rt, path).ok()?;
-    if !file.metadata().ok()?.is_file() || file.try_lock().is_err() {
-        return None;
+    let file = options.open(rt, path)?;
+    if !file.metadata()?.is_file() {
+        return Err(io::Error::from(ErrorKind::InvalidInput));
     }
-    Some(file)
+    match file.try_lock() {
+        Ok(()) => Ok(file),
+        Err(why) => Err(io::Error::from(why)),
+    }
 }
 
 // Opens the journals of so many sessions from that one on.
@@ -127,33 +130,34 @@ fn open_journals<'a, R: Files<File = File> + AllocGlobal>(
         let session = first + place;
         let path = format!(in alloc; "{folder}/{session}.journal")?;
         match open_journal(rt, path.as_str()) {
-            Some(file) => files.push(file)?,
-            None => return Err(ToolFault::JournalFile { session }),
+            Ok(file) => files.push(file)?,
+            Err(why) => {
+                return Err(ToolFault::JournalFile {
+                    session,
+                    why: Some(why),
+                });
+            }
         }
     }
     Ok(files)
 }
 
 // Why a session was not restored, as the program tells it.
-fn unrestored<'a>(session: u64, fault: SessionFault) -> ToolFault<'a>
-    ensures { IsRestoreFaultOf session fault result }
+fn unrestored<'a>(session: u64, fault: RestoreFault) -> ToolFault<'a>
+    ensures { result ≡ of_restoring session fault }
 {
     match fault {
-        SessionFault::Memory => ToolFault::Memory,
-        SessionFault::Taken => ToolFault::JournalLost { session },
-        SessionFault::Journal(RestoreFault::Memory) => ToolFault::Memory,
-        SessionFault::Journal(RestoreFault::Read) => ToolFault::JournalLost { session },
-        SessionFault::Journal(RestoreFault::Line(NotRestored { line, fault })) => match fault {
-            Unaccepted::Memory => ToolFault::Memory,
-            Unaccepted::Bad => ToolFault::JournalLine { session, line },
-            Unaccepted::Refused => ToolFault::JournalLine { session, line },
-        },
+        RestoreFault::Read | RestoreFault::Taken => ToolFault::JournalLost { session },
+        RestoreFault::Memory => ToolFault::Memory,
+        RestoreFault::Unreadable { line } | RestoreFault::Refused { line } => {
+            ToolFault::JournalLine { session, line }
+        }
     }
 }
 
 // A session's file, and what was restored from it.
 #[derive(Drop)]
-struct Read {
+struct RestoredFile {
     file: File,
     restored: Restored,
 }
@@ -163,7 +167,7 @@ fn restore_all<'a, R: Wait + AllocGlobal + 'static>(
     rt: &R,
     desk: &Desk<'_>,
     files: Vec<File>,
-) -> Result<Vec<Read>, ToolFault<'a>>
+) -> Result<Vec<RestoredFile>, ToolFault<'a>>
     requires { length files.items ≡ length desk.now.cells }
     ensures count { IfOk result (λ read. length read.items ≡ length files.items) }
     ensures fault { IfErr result (IsFileFaultOf desk.now.first (length files.items)) }
@@ -174,7 +178,7 @@ fn restore_all<'a, R: Wait + AllocGlobal + 'static>(
     for file in files {
         let session = first + read.len() as u64;
         match desk.restore(rt, alloc, session, &mut OverRead::new(&file)) {
-            Ok(restored) => read.push_reserved(Read { file, restored }),
+            Ok(restored) => read.push_reserved(RestoredFile { file, restored }),
             Err(fault) => return Err(unrestored(session, fault)),
         }
     }
@@ -185,12 +189,12 @@ fn restore_all<'a, R: Wait + AllocGlobal + 'static>(
 fn keeper<'a>(
     alloc: Global,
     session: u64,
-    read: Read,
+    read: RestoredFile,
     sync: bool,
 ) -> Result<FileKeeper, ToolFault<'a>>
     ensures { IfErr result (IsOneFault session) }
 {
-    let Read { file, restored } = read;
+    let RestoredFile { file, restored } = read;
     if file.set_len(restored.bytes as u64).is_err() || (sync && file.sync_all().is_err()) {
         return Err(ToolFault::JournalLost { session });
     }
@@ -205,7 +209,7 @@ fn keeper<'a>(
 fn record_all<'a>(
     alloc: Global,
     first: u64,
-    read: Vec<Read>,
+    read: Vec<RestoredFile>,
     sync: bool,
 ) -> Result<Vec<FileKeeper>, ToolFault<'a>>
     requires { first + length read.items < 2 ^ 64 }

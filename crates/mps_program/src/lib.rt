@@ -13,6 +13,7 @@ mod load;
 mod running;
 mod serving;
 mod tally;
+mod until;
 mod watched;
 
 pub use check::{check_file, lines_of, write_types};
@@ -21,8 +22,9 @@ pub use entry::{carry_out, end, end_after, end_with, obey, program};
 pub use faults::{ToolFault, fault_line, status};
 pub use files::{Noted, open_file, read_text};
 pub use journals::{FileKeeper, Recording, record_sessions};
-pub use load::{load_protocol, open_session};
+pub use load::load_opening;
 pub use running::run_file;
 pub use serving::{Service, hub_of, serve_file, serve_to};
 pub use tally::{Strict, Tally};
+pub use until::Until;
 pub use watched::Watched;

@@ -1,25 +1,23 @@
 //! Sessions served to connections.
-ghost use Rattle.std.specs.Prelude.{◌≡◌, ◌+◌, ◌<◌, ◌≤◌, ◌^◌, false, length, All, IfErr, IfOk, None, OnOk};
+ghost use Rattle.std.specs.Prelude.{◌≡◌, ◌+◌, ◌<◌, ◌≤◌, ◌^◌, false, length, map, All, IfErr, IfOk, OnOk};
 ghost use Rattle.std.specs.Option.{option_map};
-ghost use Rattle.mps_global.specs.Global.{plain as global_type};
-ghost use Rattle.mps_global.specs.Faults.{fault_of};
-ghost use Rattle.mps_program.specs.Check.{GivesNoTypes};
-ghost use Rattle.mps_program.specs.Faults.{after_writes};
+ghost use Rattle.mps_local.specs.Local.{plain};
+ghost use Rattle.mps_machine.specs.Machine.{initial};
+ghost use Rattle.mps_program.specs.Faults.{after_writes, without};
 ghost use Rattle.mps_program.specs.Journals.{IsRecordingFault, recorded_of};
 ghost use Rattle.mps_program.specs.Served.{AreLinesUpTo, AreSessionLines, HasOpened, HasServed, HasServedUpTo, IfLost};
 ghost use Rattle.mps_program.specs.Served.{IsBindFault, IsListeningLine, IsOutFault, IsPortFor, IsServeFault};
 ghost use Rattle.mps_program.specs.Served.{IsSessionLine, IsTellFault};
-ghost use Rattle.mps_program.specs.Private.Served.{IsHubFault, IsNewOf, TellsPort, TookOne, of_serving};
+ghost use Rattle.mps_program.specs.Private.Served.{IsHubFault, TellsPort, TookOne, of_serving};
 
-use crate::faults::ToolFault;
+use crate::faults::{ToolFault, told};
 use crate::files::tell;
 use crate::journals::{FileKeeper, Recording, record_sessions};
-use crate::load::{load_file, open_session};
+use crate::load::load_file;
 use mps_base::write_number;
 use mps_dev::{OverWrite, Sink};
-use mps_global::Protocol;
-use mps_hub::{Desk, Hub, Limits, ServeFault, Unguarded, serve_recorded};
-use mps_open::roles_of;
+use mps_hub::{Desk, Hub, Limits, ServeFault, Serving, Unguarded, serve_recorded};
+use mps_open::Opening;
 use mps_room::Room;
 use mps_session::Session;
 use mps_text::write_protocol;
@@ -221,7 +219,14 @@ where
     let keepers = keepers(rt, &desk, sessions, recording)?;
     let (listener, found) = listen(rt, port)?;
     tell_port(alloc, writer, found)?;
-    match serve_recorded(rt, alloc, &listener, &desk, &Unguarded, &keepers, limits) {
+    let serving = Serving {
+        rt,
+        alloc,
+        desk: &desk,
+        gate: &Unguarded,
+        keepers: &keepers,
+    };
+    match serve_recorded(&serving, &listener, limits) {
         Ok(served) => {
             tell_lost(rt, served.lost, verbose);
             Ok(())
@@ -272,46 +277,35 @@ where
     tell_sessions(rt.alloc(), writer, first, rooms.as_slice())
 }
 
-// So many new sessions of a protocol without faults.
-fn sessions_of<'a>(
-    alloc: Global,
-    protocol: &Protocol,
-    n: u64,
-) -> Result<Vec<Session>, ToolFault<'a>>
-    requires faultless { fault_of protocol.now.roles.items (global_type protocol.now.body) ≡ None }
+// So many new sessions.
+fn sessions_of(alloc: Global, opening: &Opening, n: u64) -> Result<Vec<Session>, AllocError>
     requires few { n ≤ 16 }
     ensures count { IfOk result (λ sessions. length sessions.items ≡ n) }
     ensures new { IfOk result (λ sessions. All
-        (IsNewOf protocol.now.roles.items (global_type protocol.now.body)) sessions.items) }
-    ensures fault { IfErr result (GivesNoTypes protocol.now.roles.items (global_type protocol.now.body)) }
+        (λ s. s ≡ record { types = map plain opening.now.types.items; state = initial }) sessions.items) }
 {
     let mut sessions = Vec::with_capacity(alloc, n as usize)?;
     for _ in 0..n {
-        let (_, session) = open_session(alloc, protocol)?;
-        sessions.push_reserved(session);
+        sessions.push_reserved(opening.session(alloc)?);
     }
     Ok(sessions)
 }
 
-/// Opens so many sessions of a protocol without faults, of which the first has that number. Each session owns its
-/// types, so each is projected by itself, and has its own roles then: at most 16 times, when the server starts.
-pub fn hub_of<'a>(
+/// Opens so many sessions, of which the first has that number.
+pub fn hub_of(
     alloc: Global,
-    protocol: &Protocol,
+    opening: &Opening,
     first: u64,
     sessions: u64,
-) -> Result<Hub, ToolFault<'a>>
-    requires faultless { fault_of protocol.now.roles.items (global_type protocol.now.body) ≡ None }
+) -> Result<Hub, AllocError>
     requires number { first ≤ 2 ^ 63 }
     requires some { (1 ≤ sessions) × (sessions ≤ 16) }
     ensures given { IfOk result (λ hub. hub.given ≡ false) }
     ensures opened { IfOk result (λ hub. HasOpened
-        protocol.now.roles.items (global_type protocol.now.body) first sessions hub) }
-    ensures fault { IfErr result (GivesNoTypes protocol.now.roles.items (global_type protocol.now.body)) }
+        opening.now.roles (map plain opening.now.types.items) first sessions hub) }
 {
-    let made = sessions_of(alloc, protocol, sessions)?;
-    let roles = roles_of(alloc, protocol)?;
-    Ok(Hub::of_numbered(alloc, &roles, first, made)?)
+    let made = sessions_of(alloc, opening, sessions)?;
+    Hub::of_numbered(alloc, &opening.roles, first, made)
 }
 
 /// How a server runs: its port, the number of its first session, how many sessions it has, its limits, and where the
@@ -338,7 +332,52 @@ fn recording_of<'a, 'p>(
     }
 }
 
-/// Serves sessions of the protocol in the file at a port of 127.0.0.1.
+// Serves sessions of the protocol in the file at a port of 127.0.0.1. A fault says what the system says of it.
+fn serve_from<'a, R>(
+    rt: &R,
+    file: &'a str,
+    service: Service<'a>,
+    verbose: bool,
+) -> Result<(), ToolFault<'a>>
+where
+    R: Files<File = File>
+        + AllocGlobal
+        + Print
+        + Eprint
+        + Net<Listener = TcpListener, Stream = TcpStream>
+        + Clock
+        + Threads
+        + Wait
+        + Sync
+        + 'static,
+    requires number { service.first ≤ 2 ^ 63 }
+    requires some { (1 ≤ service.sessions) × (service.sessions ≤ 16) }
+    ensures fault { IfErr result (IsServeFault file.now (option_map (λ j. j.folder.now) service.entry.journal)
+        service.entry.first service.entry.sessions) }
+{
+    let alloc = rt.alloc();
+    let opening = load_file(rt, file)?;
+    let hub = hub_of(alloc, &opening, service.first, service.sessions)?;
+    // what a journal has to be of, where there is one
+    let written = match &service.journal {
+        Some(_) => write_protocol(alloc, &opening.protocol)?,
+        None => Vec::new(alloc),
+    };
+    let recording = recording_of(service.journal, written.as_slice());
+    let mut writer = OverWrite::new(io::writer(rt));
+    serve_to(
+        rt,
+        &mut writer,
+        hub,
+        service.port,
+        service.limits,
+        recording,
+        verbose,
+    )
+}
+
+/// Serves sessions of the protocol in the file at a port of 127.0.0.1. Where more is to be told (`verbose`), a fault says
+/// what the system says of it, and standard error is told how many connections were lost.
 ///
 /// The protocol is read and checked, the sessions are opened, and where they are recorded they are restored, before the
 /// port is bound.
@@ -363,24 +402,7 @@ where
     requires some { (1 ≤ service.sessions) × (service.sessions ≤ 16) }
     ensures fault { IfErr result (IsServeFault file.now (option_map (λ j. j.folder.now) service.entry.journal)
         service.entry.first service.entry.sessions) }
+    ensures quiet { verbose ≡ false → IfErr result (λ fault. without fault ≡ fault) }
 {
-    let alloc = rt.alloc();
-    let protocol = load_file(rt, file)?;
-    let hub = hub_of(alloc, &protocol, service.first, service.sessions)?;
-    // what a journal has to be of, where there is one
-    let written = match &service.journal {
-        Some(_) => write_protocol(alloc, &protocol)?,
-        None => Vec::new(alloc),
-    };
-    let recording = recording_of(service.journal, written.as_slice());
-    let mut writer = OverWrite::new(io::writer(rt));
-    serve_to(
-        rt,
-        &mut writer,
-        hub,
-        service.port,
-        service.limits,
-        recording,
-        verbose,
-    )
+    told(serve_from(rt, file, service, verbose), verbose)
 }

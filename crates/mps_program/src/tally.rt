@@ -1,5 +1,5 @@
 //! What is heard of the answers to a script.
-ghost use Rattle.std.specs.Prelude.{◌≡◌, ◌+◌, ◌-◌, ◌<◌, ◌≤◌, ◌%◌, ◌^◌, ◌++◌, ◌↔◌, ℕ, IsTrue, List, [], None, length, take};
+ghost use Rattle.std.specs.Prelude.{◌≡◌, ◌+◌, ◌-◌, ◌<◌, ◌≤◌, ◌%◌, ◌^◌, ◌++◌, ◌↔◌, ◌⊎◌, ℕ, IsTrue, List, [], None, length, slice_index, take};
 ghost use Rattle.std.specs.Io.{WritesAtMost};
 ghost use Rattle.std.specs.Io.KnownBytes.{WriteAppends};
 ghost use Rattle.mps_dev.specs.Calls.{failures_after, TakesSome};
@@ -10,6 +10,7 @@ ghost use Rattle.mps_program.specs.Private.Heard.{IsHearing};
 
 use mps_dev::{Failed, Sink};
 use mps_lines::line_end;
+use std::cell::Cell;
 
 /// How many answers there were, and how many of them were refusals. As a sink it keeps nothing else of them.
 #[derive(Debug, Drop)]
@@ -106,18 +107,20 @@ impl Sink for Tally {
     }
 }
 
-/// A sink that takes answers until one of them is a refusal, and no more then.
+/// A sink that takes answers until one of them is a refusal, and no more then. It notes that for the source of the
+/// script, `Until`.
 #[derive(Drop)]
-pub struct Strict<W> {
+pub struct Strict<'c, W> {
     inner: W,
     tally: Tally,
+    noted: &'c Cell<bool>,
     // how often more was to be taken after a refusal
     late: u64,
 }
 
-impl<W> Strict<W> {
-    /// Passes answers on to this sink.
-    pub fn new(inner: W) -> Strict<W>
+impl<'c, W> Strict<'c, W> {
+    /// Passes answers on to this sink, and notes there that one was a refusal.
+    pub fn new(inner: W, noted: &'c Cell<bool>) -> Strict<'c, W>
         ensures inner { inner_of result ≡ inner }
         ensures late { late_of result ≡ 0 }
         ensures passed { HasPassed result [] }
@@ -125,6 +128,7 @@ impl<W> Strict<W> {
         Strict {
             inner,
             tally: Tally::new(),
+            noted,
             late: 0,
         }
     }
@@ -139,6 +143,11 @@ impl<W> Strict<W> {
             None
         }
     }
+
+    // Notes whether a refusal was taken whole.
+    fn note(&self) {
+        self.noted.set(self.refused().is_some());
+    }
 }
 
 // How many bytes the line has that comes first, with its LF.
@@ -146,6 +155,7 @@ fn line_length(bytes: &[u8]) -> usize
     ensures within { result ≤ length bytes.now }
     ensures some { 0 < length bytes.now → 0 < result }
     ensures line { HasNoBreak (take (result - 1) bytes.now) }
+    ensures whole { (result ≡ length bytes.now) ⊎ ((0 < result) × (slice_index bytes.now (result - 1) ≡ 10)) }
 {
     match line_end(bytes) {
         Some(end) => end + 1,
@@ -153,7 +163,7 @@ fn line_length(bytes: &[u8]) -> usize
     }
 }
 
-impl<W: Sink> Sink for Strict<W> {
+impl<'c, W: Sink> Sink for Strict<'c, W> {
     ghost taken = { λ s. W.taken (inner_of s) };
 
     ghost failed_calls = { λ s. W.failed_calls (inner_of s) + late_of s };
@@ -175,6 +185,7 @@ impl<W: Sink> Sink for Strict<W> {
         let end = line_length(bytes);
         let count = self.inner.write(&bytes[..end])?;
         self.tally.hear(&bytes[..count]);
+        self.note();
         Ok(count)
     }
 }

@@ -1,3 +1,4 @@
+-- The lemmas of mps_room, a file each; other crates may use those with `pub`.
 pub mod Growing
 pub mod Accepting
 pub mod Fitting

@@ -1,5 +1,5 @@
--- Numbered commands: a change that isn't refused is accepted, and what was accepted last is kept.
-use Rattle.std.proofs.Common.{arith, ◌≡◌, ◌≢◌, ℕ, true, List, Option, None, Some, Bool, false, refl}
+-- Numbered commands: a change that isn't refused is accepted.
+use Rattle.std.proofs.Common.{arith, ◌≡◌, ℕ, true, List, Bool, false}
 use Rattle.std.specs.Prelude.{IsSome}
 use Rattle.mps_command.specs.Changes.{change_of}
 use Rattle.mps_command.specs.declared.answer.Answer.{Answer}
@@ -12,8 +12,6 @@ use Rattle.mps_machine.specs.Machine.{State, serve}
 use Rattle.mps_machine.proofs.Answering.{from_ok}
 use Rattle.mps_room.specs.Journal.{answer_to, is_accepted, MayAnswer}
 use Rattle.mps_room.specs.declared.entry.Entry.{Entry}
-use Rattle.mps_room.specs.Numbers.{last_of, kept_of}
-use Rattle.mps_room.specs.declared.numbers.Numbered.{Numbered}
 use Rattle.mps_room.proofs.Growing.{asked}
 
 -- the answer is of a change: a step, a list of steps taken back, or a refusal
@@ -28,8 +26,3 @@ told_change types st p change = grind arith
 
 pub accepts_change : (names : List (List ℕ)) (types : List LocalType) (j : List Entry) (p : ℕ) (c : Command) (a : Answer) → IsSome (change_of c) → MayAnswer a (answer_to names types j p c) → ((refusal : Refusal) → a ≡ Refused refusal → ⊥) → is_accepted a ≡ true
 accepts_change names types j p c a some says none = grind (arith, from_ok, asked)
-
--- where the last number isn't 0, an answer is kept
-pub some_kept : (n : ℕ) (newest : Option Numbered) → n ≡ last_of newest → n ≢ 0 → (a : Answer) × (kept_of newest ≡ Some a)
-some_kept n None e some = absurd (some e)
-some_kept n (Some newest) e some = (newest.answer, refl)

@@ -1,5 +1,6 @@
 -- Numbered commands: one is called once, however often its line is sent.
-use Rattle.std.specs.Prelude.{◌≡◌, ◌≢◌, ℕ, ◌+◌, true, Option, None, Some}
+use Rattle.std.specs.Prelude.{◌≡◌, ◌≢◌, ℕ, ◌+◌, true, Option, None, Some, Result, Ok, Err}
+use Rattle.std.proofs.Common.{refl}
 use Rattle.mps_command.specs.declared.answer.Answer.{Answer}
 use Rattle.mps_command.specs.declared.answer.Answer.TheVariants as answers
 use Rattle.mps_command.specs.declared.answer.Refusal.{Refusal}
@@ -20,6 +21,11 @@ last_of (Some newest) = newest.number
 abbrev pub kept_of : Option Numbered → Option Answer
 kept_of None = None
 kept_of (Some newest) = Some newest.answer
+
+-- where the last number isn't 0, its answer is kept
+pub keeps_newest : (newest : Option Numbered) → last_of newest ≢ 0 → (answer : Answer) × (kept_of newest ≡ Some answer)
+keeps_newest None some = absurd (some refl)
+keeps_newest (Some newest) some = (newest.answer, refl)
 
 -- where a number stands: it is the last one, which 0 never is, the next, or neither
 abbrev pub IsPosition : (last n : ℕ) → Position → Type 0
@@ -65,3 +71,8 @@ module _ {C : Type 0} (calls : C → Command → Answer → C → Type 0) (last 
   IsNumbered Kept = IsRepeated
   IsNumbered Wrong = IsWrong
   IsNumbered (Refused refusal) = IsRefused refusal
+
+-- what came of a command with the next number
+abbrev pub came_of : Result Unit Refusal → Told
+came_of (Ok done) = Fresh
+came_of (Err refusal) = Refused refusal

@@ -1,18 +1,19 @@
 //! Who gives commands for a role.
-ghost use Rattle.std.specs.Prelude.{◌≡◌, ℕ, Bool, List, Option, IsSome};
+ghost use Rattle.std.specs.Prelude.{◌≡◌, ◌≢◌, ◌+◌, ℕ, Bool, List, Option, Some, IsSome};
 ghost use Rattle.std.specs.Option.{option_map};
 ghost use Rattle.mps_command.specs.Changes.{change_of};
 ghost use Rattle.mps_command.specs.declared.answer.Answer.{Answer as Response};
 ghost use Rattle.mps_command.specs.declared.command.Command.{Command as Asked};
 ghost use Rattle.mps_room.specs.Journal.{grown};
-ghost use Rattle.mps_room.specs.Numbers.{IsNumbered};
+ghost use Rattle.mps_room.specs.Numbers.{IsNumbered, came_of};
 ghost use Rattle.mps_room.specs.declared.entry.Entry.{Entry};
 
-use crate::numbers::Told;
+use crate::numbers::{Position, Told};
 use mps_base::Roles;
-use mps_command::{Answer, Command};
+use mps_command::{Answer, Command, Refusal};
 
-/// Who gives commands for one role, and is answered. A caller that waits for others has what it waits by in its type.
+/// Who gives commands for one role, and is answered. A caller that may have to wait for others has the runtime that it
+/// waits by.
 ///
 /// A command that asks for a change may have a number, which lets whoever lost the answer ask for it again: a command
 /// with the last number isn't called, and its answer is `kept`.
@@ -48,7 +49,7 @@ pub trait Caller {
         ensures last { last self.new ≡ last self.old }
         ensures kept { kept self.new ≡ kept self.old };
 
-    /// The number of the newest numbered command that was accepted, 0 at first: for tests, and whoever looks on.
+    /// The number of the newest numbered command that was accepted, 0 at first.
     fn last(&self) -> u64
         ensures { result ≡ last self.now };
 
@@ -56,14 +57,19 @@ pub trait Caller {
     fn kept(&self) -> Option<&Answer>
         ensures { option_map (λ a. a.now) result ≡ kept self.now };
 
-    /// Gives a command that asks for a change, with its number. What is accepted is `kept`.
-    fn call_numbered(&mut self, number: u64, command: Command) -> Told
-        requires { IsSome (change_of command) }
-        ensures { IsNumbered calls last kept self.old number command self.new result };
+    /// Gives a command that asks for a change, with the next number. What is accepted is `kept` under it; what is refused
+    /// leaves the number to come again.
+    fn call_next(&mut self, number: u64, command: Command) -> Result<(), Refusal>
+        requires next { number ≡ last self.old + 1 }
+        requires change { IsSome (change_of command) }
+        ensures { IsNumbered calls last kept self.old number command self.new (came_of result) };
 
     /// Whether what it was answered may be told on.
     fn may_tell(&self) -> bool
         ensures { result ≡ may_tell self.now };
+
+    // The answer to the newest numbered command is kept.
+    ghost keeps: { (c : Self) → last c ≢ 0 → (answer : Response) × (kept c ≡ Some answer) };
 
     // No call changes the names.
     ghost same_names: { (c : Self) (x : Asked) (a : Response) (d : Self) → calls c x a d → names d ≡ names c };
@@ -74,4 +80,21 @@ pub trait Caller {
     // A call adds just an accepted command, with its answer.
     ghost grows: { (c : Self) (x : Asked) (a : Response) (d : Self) → calls c x a d
         → made d ≡ grown (made c) (role c) x a };
+}
+
+/// Gives a command that asks for a change, with its number. With the next number it is called, and what is accepted is
+/// `kept`. With the last number nothing is called, and its answer is the one that is `kept`, whatever it asks for. With
+/// any other number nothing is called.
+pub fn call_numbered<C: Caller>(caller: &mut C, number: u64, command: Command) -> Told
+    requires { IsSome (change_of command) }
+    ensures { IsNumbered C.calls C.last C.kept caller.old number command caller.new result }
+{
+    match Position::of(caller.last(), number) {
+        Position::Last => Told::Kept,
+        Position::Elsewhere => Told::Wrong,
+        Position::Next => match caller.call_next(number, command) {
+            Ok(()) => Told::Fresh,
+            Err(refusal) => Told::Refused(refusal),
+        },
+    }
 }

@@ -7,7 +7,7 @@
 //! let mut room = Room::open(alloc, names, session);
 //! let answer = room.apply(Role::new(0), Command::Undo(StepId::new(1)));
 //! let mut caller = Solo::new(room, Role::new(0));
-//! let told = caller.call_numbered(1, Command::Undo(StepId::new(2)));
+//! let told = call_numbered(&mut caller, 1, Command::Undo(StepId::new(2)));
 //! ```
 #![tactic(auto)]
 
@@ -26,7 +26,7 @@ mod shown;
 pub mod solo;
 mod steps;
 
-pub use caller::Caller;
+pub use caller::{Caller, call_numbered};
 pub use entry::Entry;
 pub use mps_command::{Answer, Command, ShownText};
 pub use numbers::{Numbered, Numbers, Position, Told};

@@ -10,7 +10,7 @@ use mps_command::{Answer, Refusal};
 pub enum Told {
     /// It had the next number, and was called and accepted. Its answer is kept.
     Fresh,
-    /// It had the last number, so nothing was called. The answer that is kept is its own.
+    /// It had the last number, so nothing was called. The answer that is kept is that number's, whatever the command asks for.
     Kept,
     /// It had any other number, so nothing was called.
     Wrong,
@@ -21,12 +21,27 @@ pub enum Told {
 /// Where a number stands.
 #[derive(Clone, Copy, Debug, PartialEq, Eq)]
 pub enum Position {
-    /// It is that of the newest command.
+    /// It is that of the newest numbered command that was accepted.
     Last,
     /// It is the one after that.
     Next,
     /// It is neither.
     Elsewhere,
+}
+
+impl Position {
+    /// Where a number stands, by the number of the newest command, which is 0 where none was accepted.
+    pub fn of(last: u64, number: u64) -> Position
+        ensures { IsPosition last number result }
+    {
+        if number == last && number != 0 {
+            return Position::Last;
+        }
+        if number.checked_sub(1) == Some(last) {
+            return Position::Next;
+        }
+        Position::Elsewhere
+    }
 }
 
 /// A numbered command that was accepted: its number, and its answer.
@@ -68,20 +83,6 @@ impl Numbers {
             Some(newest) => Some(&newest.answer),
             None => None,
         }
-    }
-
-    /// Where a number stands.
-    pub fn position(&self, number: u64) -> Position
-        ensures { IsPosition (last_of self.now.newest) number result }
-    {
-        let last = self.last();
-        if number == last && number != 0 {
-            return Position::Last;
-        }
-        if number.checked_sub(1) == Some(last) {
-            return Position::Next;
-        }
-        Position::Elsewhere
     }
 
     /// Keeps the answer under its number, in place of the one before it.

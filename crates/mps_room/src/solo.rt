@@ -2,10 +2,10 @@
 ghost use Rattle.std.specs.Prelude.{◌≡◌, ◌<◌, length};
 
 use crate::caller::Caller;
-use crate::numbers::{Numbers, Position, Told};
+use crate::numbers::Numbers;
 use crate::room::Room;
 use mps_base::{Role, Roles};
-use mps_command::{Answer, Command};
+use mps_command::{Answer, Command, Refusal};
 
 /// A room, who calls it for one of its roles, and the newest of the caller's numbered commands.
 #[derive(Drop)]
@@ -34,7 +34,7 @@ impl Solo {
 
 impl Caller for Solo {
     ghost use Rattle.std.specs.Prelude.{true};
-    ghost use Rattle.mps_room.specs.Numbers.{last_of, kept_of};
+    ghost use Rattle.mps_room.specs.Numbers.{last_of, kept_of, keeps_newest};
     ghost use Rattle.mps_room.specs.Solos.{IsSoloCall, names_of, role_of, made_of, same_names, same_role, made_grows};
 
     ghost names = { names_of };
@@ -67,17 +67,12 @@ impl Caller for Solo {
         self.numbers.kept()
     }
 
-    fn call_numbered(&mut self, number: u64, command: Command) -> Told {
-        match self.numbers.position(number) {
-            Position::Last => return Told::Kept,
-            Position::Elsewhere => return Told::Wrong,
-            Position::Next => {}
-        }
+    fn call_next(&mut self, number: u64, command: Command) -> Result<(), Refusal> {
         match self.room.apply(self.role, command) {
-            Answer::Refused(refusal) => Told::Refused(refusal),
+            Answer::Refused(refusal) => Err(refusal),
             answer => {
                 self.numbers.keep(number, answer);
-                Told::Fresh
+                Ok(())
             }
         }
     }
@@ -85,6 +80,8 @@ impl Caller for Solo {
     fn may_tell(&self) -> bool {
         true
     }
+
+    ghost keeps = { λ s some. keeps_newest s.numbers.newest some };
 
     ghost same_names = { same_names };
 

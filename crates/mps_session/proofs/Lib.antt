@@ -1,3 +1,4 @@
+-- The lemmas of mps_session, a file each; other crates may use those with `pub`.
 pub mod TypeAt
 pub mod FirstBadPeer
 pub mod HoldsAfterAct

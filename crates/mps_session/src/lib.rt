@@ -33,5 +33,5 @@ pub use mps_local::LocalFault;
 pub use mps_log::{Moves, Queue};
 pub use mps_table::Expect;
 pub use open::OpenFault;
-pub use protocol::{ProtocolFault, open_protocol};
+pub use protocol::{ProtocolFault, open_protocol, open_types};
 pub use session::{MAX_NUMBERS, Session};

@@ -1,19 +1,20 @@
 //! Sessions of protocols.
-ghost use Rattle.std.specs.Prelude.{◌≡◌, None, IfOk, IfErr, OnOk};
+ghost use Rattle.std.specs.Prelude.{◌≡◌, None, map, IfOk, IfErr, OnOk};
 ghost use Rattle.mps_fidelity.specs.Fidelity.{AreOfOneProtocol};
 ghost use Rattle.mps_global.specs.Global.{plain as global_type};
 ghost use Rattle.mps_global.specs.Faults.{fault_of};
+ghost use Rattle.mps_local.specs.Local.{plain};
 ghost use Rattle.mps_local.specs.Outcome.{AreProjections};
 ghost use Rattle.mps_machine.specs.Machine.{initial};
 ghost use Rattle.mps_session.specs.Protocols.{of_projection, HasNoSession};
-ghost use Rattle.mps_session.specs.declared.protocol.ProtocolFault.TheVariants.{Global as HasFault};
+ghost use Rattle.mps_session.specs.declared.protocol.ProtocolFault.TheVariants.{Global as HasFault, Memory as OutOfMemory};
 
 use crate::open::OpenFault;
 use crate::session::Session;
 use mps_base::Role;
 use mps_global::{GlobalFault, Protocol, check};
-use mps_local::{ProjectFault, project_all};
-use std::alloc;
+use mps_local::{Local, ProjectFault, project_all};
+use std::alloc::{AllocError, Global};
 use thiserror::Error;
 
 /// Why no session of a protocol is opened.
@@ -52,9 +53,32 @@ impl From<ProjectFault> for ProtocolFault {
     }
 }
 
+impl From<AllocError> for ProtocolFault {
+    ghost from_gives = { λ _ fault. fault ≡ OutOfMemory };
+
+    fn from(_: AllocError) -> ProtocolFault {
+        ProtocolFault::Memory
+    }
+}
+
+/// A session of these types, the projections of one protocol without faults, in which nothing was done yet. No command
+/// is refused there with `Mismatch`, whatever the roles do.
+pub fn open_types(alloc: Global, types: Vec<Local>) -> Result<Session, AllocError>
+    requires { AreOfOneProtocol (map plain types.items) }
+    ensures { IfOk result (λ session. session ≡ record { types = map plain types.items; state = initial }) }
+{
+    match Session::open(alloc, types) {
+        Ok(session) => Ok(session),
+        Err(OpenFault::Memory) => Err(AllocError),
+        Err(OpenFault::RoleCount) => unreachable!(),
+        Err(OpenFault::BadPeer { .. }) => unreachable!(),
+        Err(OpenFault::Local { .. }) => unreachable!(),
+    }
+}
+
 /// A session of the protocol, in which nothing was done yet: each role's type is its projection. No
 /// command is refused there with `Mismatch`, whatever the roles do.
-pub fn open_protocol(alloc: alloc::Global, protocol: &Protocol) -> Result<Session, ProtocolFault>
+pub fn open_protocol(alloc: Global, protocol: &Protocol) -> Result<Session, ProtocolFault>
     ensures faultless { OnOk result
         (fault_of protocol.now.roles.items (global_type protocol.now.body) ≡ None) }
     ensures types { IfOk result (λ session. AreProjections
@@ -66,11 +90,5 @@ pub fn open_protocol(alloc: alloc::Global, protocol: &Protocol) -> Result<Sessio
 {
     check(protocol)?;
     let types = project_all(alloc, protocol)?;
-    match Session::open(alloc, types) {
-        Ok(session) => Ok(session),
-        Err(OpenFault::Memory) => Err(ProtocolFault::Memory),
-        Err(OpenFault::RoleCount) => unreachable!(),
-        Err(OpenFault::BadPeer { .. }) => unreachable!(),
-        Err(OpenFault::Local { .. }) => unreachable!(),
-    }
+    Ok(open_types(alloc, types)?)
 }

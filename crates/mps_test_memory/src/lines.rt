@@ -7,7 +7,7 @@ use crate::parties::{names, opened, opened_of};
 use mps_base::{Role, Roles, StepId};
 use mps_command::{Answer, StepIds};
 use mps_dev::{Pieces, Short};
-use mps_hub::{Attended, Desk, Hub, Unguarded, attend, no_keepers};
+use mps_hub::{Attended, Desk, Hub, Serving, Unguarded};
 use mps_line::{LineFault, append_answer, read_answer, read_command};
 use mps_room::{Room, Solo};
 use mps_session::Session;
@@ -249,12 +249,7 @@ fn connect<R: Wait + 'static>(
     requires reads { calls_of streams.old.reader ≡ 0 }
     requires writes { streams.old.writer.failed_calls ≡ 0 }
 {
-    attend(
-        rt,
-        alloc,
-        desk,
-        &Unguarded,
-        no_keepers(),
+    Serving::unrecorded(rt, alloc, desk, &Unguarded).attend(
         1,
         &mut streams.reader,
         &mut streams.writer,

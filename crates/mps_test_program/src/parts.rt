@@ -6,8 +6,8 @@ use mps_base::{Name, Roles};
 use mps_dev::{Pieces, Short};
 use mps_global::GlobalFault;
 use mps_program::{
-    Tallies, Tally, ToolFault, check_file, compare_files, fault_line, lines_of, load_protocol,
-    open_file, open_session, read_text, run_file, status, verdict_of, write_types,
+    Tallies, Tally, ToolFault, check_file, compare_files, fault_line, lines_of, load_opening,
+    open_file, read_text, run_file, status, verdict_of, write_types,
 };
 use mps_session::Session;
 use mps_text::TextKind;
@@ -40,8 +40,8 @@ fn opened(alloc: Global, pieces: Vec<Vec<u8>>) -> Result<(Roles, Session), ToolF
     ensures named { IfOk result (λ r. length r.0 ≡ length r.1.types) }
     ensures new { IfOk result (λ r. r.1.state ≡ initial) }
 {
-    let protocol = load_protocol(alloc, &mut Pieces::new(pieces, None))?;
-    open_session(alloc, &protocol)
+    let opening = load_opening(alloc, &mut Pieces::new(pieces, None))?;
+    Ok(opening.into_session(alloc)?)
 }
 
 // The answers to the script on a new session of the protocol.
@@ -194,6 +194,18 @@ const ORDERS: &[Words] = &[
     Words(
         &[
             "mps_tool",
+            "-v",
+            "-v",
+            "check",
+            "-vv",
+            "a.protocol",
+            "--verbose",
+        ],
+        "Offline { task: Check { file: \"a.protocol\" }, verbose: true }",
+    ),
+    Words(
+        &[
+            "mps_tool",
             "serve",
             "a.protocol",
             "--port=0",
@@ -206,7 +218,7 @@ const ORDERS: &[Words] = &[
     Words(&["mps_tool", "--help"], "Offline { task: Help { text: "),
     Words(
         &["mps_tool", "--version"],
-        "Offline { task: Help { text: \"mps_tool 0.1.0\" }, verbose: false }",
+        "Offline { task: Help { text: \"mps_tool 0.2.0\" }, verbose: false }",
     ),
     Words(&["mps_tool"], "2"),
     Words(&["mps_tool", "fly"], "2"),
@@ -351,13 +363,8 @@ fn counted(
 
 // The lines of the protocol's roles, or the line of its fault.
 fn shown(alloc: Global, pieces: Vec<Vec<u8>>) -> Result<Vec<u8>, AllocError> {
-    let loaded = load_protocol(alloc, &mut Pieces::new(pieces, None));
-    let lines = match &loaded {
-        Ok(protocol) => lines_of(alloc, protocol),
-        Err(fault) => return fault_line(alloc, fault),
-    };
-    match lines {
-        Ok(lines) => Ok(lines),
+    match load_opening(alloc, &mut Pieces::new(pieces, None)) {
+        Ok(opening) => lines_of(alloc, &opening),
         Err(fault) => fault_line(alloc, &fault),
     }
 }
@@ -570,7 +577,7 @@ fn tells_reads_that_fail(rt: HostRuntime) -> Result<(), Fail> {
     let mut reader = Pieces::new(whole(rt.alloc(), "roles a")?, Some(2));
     assert!(rt; is_failed_read(read_text(rt.alloc(), &mut reader)));
     let mut reader = Pieces::new(whole(rt.alloc(), RELAY)?, Some(2));
-    assert!(rt; is_failed_read(load_protocol(rt.alloc(), &mut reader)));
+    assert!(rt; is_failed_read(load_opening(rt.alloc(), &mut reader)));
     Ok(())
 }
 
@@ -636,9 +643,9 @@ fn told(
         first: Tally::new(),
         second: Tally::new(),
     };
-    let protocol = load_protocol(alloc, &mut Pieces::new(whole(alloc, PAIRS)?, None))?;
-    let (roles, first) = open_session(alloc, &protocol)?;
-    let (_, second) = open_session(alloc, &protocol)?;
+    let opening = load_opening(alloc, &mut Pieces::new(whole(alloc, PAIRS)?, None))?;
+    let first = opening.session(alloc)?;
+    let (roles, second) = opening.into_session(alloc)?;
     verdict_of(
         alloc,
         &roles,

@@ -2,7 +2,7 @@
 
 use mps_dev::{Pieces, Short};
 use mps_hub::Limits;
-use mps_program::{hub_of, load_protocol, serve_to};
+use mps_program::{hub_of, load_opening, serve_to};
 use std::alloc::Global;
 use std::fs::File;
 use std::io::{Read, Write};
@@ -51,10 +51,10 @@ where
     let alloc = rt.alloc();
     let text = vec![in alloc; Vec::from_slice(alloc, protocol)?]?;
     let mut writer = Short::new(alloc, 100)?;
-    let Ok(protocol) = load_protocol(alloc, &mut Pieces::new(text, None)) else {
+    let Ok(opening) = load_opening(alloc, &mut Pieces::new(text, None)) else {
         return Err("a protocol".into());
     };
-    let Ok(hub) = hub_of(alloc, &protocol, first, sessions) else {
+    let Ok(hub) = hub_of(alloc, &opening, first, sessions) else {
         return Err("no hub".into());
     };
     match serve_to(rt, &mut writer, hub, port, ONE, None, false) {
@@ -68,6 +68,7 @@ fn connected<R: Net<Stream = TcpStream> + Clock>(
     rt: &R,
     addr: SocketAddr,
 ) -> io::Result<TcpStream> {
+    // for ten seconds at least
     for _ in 0..2_000 {
         if let Ok(stream) = TcpStream::connect(rt, addr) {
             return Ok(stream);

@@ -376,20 +376,20 @@ const UNREADABLE: &[Row] = &[
         1000,
         "refused line\nrefused line\nrefused line\nrefused line\nrefused line\nrefused line\nrefused line\n\
          refused line\nrefused line\nrefused line\nrefused line\nrefused line\nrefused line\ndone 1\nrefused line\n",
-        "line 1 is unreadable: it ends with a carriage return; a line ends with an LF alone\n\
+        "line 1 is unreadable: it ends with a carriage return, and lines end with LF alone, not with CR and LF\n\
          line 2 is unreadable: it is empty\n\
-         line 3 is unreadable: a script has no comments\n\
-         line 4 is unreadable: it has a tab; one space stands between two parts\n\
-         line 5 is unreadable: it has a space at its beginning or end\n\
-         line 6 is unreadable: it has two spaces in a row\n\
-         line 7 is unreadable: a script's lines have no numbers\n\
+         line 3 is unreadable: it looks like a comment, and a script has none\n\
+         line 4 is unreadable: it has a tab, and between two words is one space\n\
+         line 5 is unreadable: it begins with a space, and a line begins with its role\n\
+         line 6 is unreadable: it has two spaces in a row, and between two words is one\n\
+         line 7 is unreadable: it begins with a number, and a script's lines have none\n\
          line 8 is unreadable: its first word is no role of the protocol\n\
-         line 9 is unreadable: its second word is no command\n\
-         line 10 is unreadable: after `send` comes a role of the protocol\n\
-         line 11 is unreadable: what is sent is a whole number of 64 bits without zeros before it, true, false, or a text in double quotes\n\
-         line 12 is unreadable: a text has a quote, a backslash, or a byte that can't be shown\n\
-         line 13 is unreadable: after `undo` and `rollback` comes a step's number, of 64 bits, without zeros before it\n\
-         line 15 is unreadable: after `pick` comes a role, and nothing else\n",
+         line 9 is unreadable: after the role comes a command\n\
+         line 10 is unreadable: the peer is no role of the protocol\n\
+         line 11 is unreadable: a value is an int such as -5, `true` or `false`, or a text in double quotes\n\
+         line 12 is unreadable: a `\\` stands in the text, and a text has none\n\
+         line 13 is unreadable: no number but 0 begins with a zero\n\
+         line 15 is unreadable: the form of such a line is ROLE pick PEER, with one space between two words\n",
         0,
     ),
     Row(
@@ -404,16 +404,16 @@ const UNREADABLE: &[Row] = &[
         1000,
         "refused line\nrefused line\nrefused line\nrefused line\nrefused line\nrefused line\nrefused line\n\
          refused line\nrefused line\nrefused line\n",
-        "line 1 is unreadable: it has two spaces in a row\n\
-         line 2 is unreadable: a command comes after the role\n\
-         line 3 is unreadable: a script's lines have no numbers\n\
-         line 4 is unreadable: after `recv` come a role and the slot's name, which is no reserved word\n\
-         line 5 is unreadable: after `choose` come a role and a label\n\
-         line 6 is unreadable: after `mark` and `back` comes a mark's name, which is no reserved word\n\
-         line 7 is unreadable: after `commit` and `show` comes nothing\n\
-         line 8 is unreadable: after `news` comes a number of entries, of 64 bits, without zeros before it\n\
-         line 9 is unreadable: a text ends with a double quote, and nothing comes after it\n\
-         line 10 is unreadable: a text has a quote, a backslash, or a byte that can't be shown\n",
+        "line 1 is unreadable: it has two spaces in a row, and between two words is one\n\
+         line 2 is unreadable: after the role comes a command\n\
+         line 3 is unreadable: a number stands before the command, and a script's lines have none\n\
+         line 4 is unreadable: a reserved word is no name\n\
+         line 5 is unreadable: the form of such a line is ROLE choose PEER LABEL, with one space between two words\n\
+         line 6 is unreadable: names are of small letters, digits and `_`, with a letter first\n\
+         line 7 is unreadable: the form of such a line is ROLE commit, with one space between two words\n\
+         line 8 is unreadable: no number but 0 begins with a zero\n\
+         line 9 is unreadable: a `\"` is missing at the end of the text\n\
+         line 10 is unreadable: it has a tab, and between two words is one space\n",
         0,
     ),
     // a strict run tells of no line after that with which it ends
@@ -444,8 +444,8 @@ const GREETINGS: &[Row] = &[
 ];
 
 const VERSIONS: &[Row] = &[
-    Row(&["mps_tool", "--version"], 1000, "mps_tool 0.1.0\n", "", 0),
-    Row(&["mps_tool", "-V"], 1000, "mps_tool 0.1.0\n", "", 0),
+    Row(&["mps_tool", "--version"], 1000, "mps_tool 0.2.0\n", "", 0),
+    Row(&["mps_tool", "-V"], 1000, "mps_tool 0.2.0\n", "", 0),
 ];
 
 const CHECKS: &[Row] = &[

@@ -1,3 +1,4 @@
+//! mps_cell: passes in one thread and in several are answered in one journal, and a try or a look never waits.
 ghost use Rattle.std.specs.Prelude.{◌≡◌, false, IfOk, IfSome, All};
 ghost use Rattle.mps_cell.specs.Cells.{IsDealOf};
 
@@ -470,7 +471,7 @@ fn both<R: Threads + Wait + Sync>(rt: &R, all: Vec<Pass<'_>>) -> Option<(bool, b
     ))
 }
 
-// How many entries, surviving steps and numbers there are.
+// How many entries, surviving steps and numbers there are. A step and its undo make two entries, and take one number.
 fn counts(room: &Room) -> (u64, usize, u64) {
     let session = room.session();
     (room.entries(), session.len(), session.issued())
@@ -572,6 +573,7 @@ fn marked_by_all<R: Threads + Wait + Sync>(
     Some((shown, equal_pairs(cell, all)))
 }
 
+// Eight passes make 28 pairs; each does a step and its undo 1,000 times.
 #[test]
 fn eight_threads_fill_the_room(rt: HostRuntime) -> Result<(), Fail> {
     let mut cell = cell(rt.alloc(), SILENCE)?;

@@ -1,15 +1,16 @@
+//! mps_room: a numbered command is called once, and a repeat gets its answer.
 use crate::texts::{VERDICT, room, told};
 use mps_base::{Role, StepId};
 use mps_command::{Answer, Command, StepIds};
 use mps_line::read_numbered;
-use mps_room::{Caller, Numbers, Position, Solo, Told};
+use mps_room::{Caller, Numbers, Position, Solo, Told, call_numbered};
 use std::alloc::Global;
 use std::test::Fail;
 
 // Whether each of the numbers stands where its row says.
 fn stand(numbers: &Numbers, rows: &[(u64, Position)]) -> bool {
     for row in rows {
-        if numbers.position(row.0) != row.1 {
+        if Position::of(numbers.last(), row.0) != row.1 {
             return false;
         }
     }
@@ -61,7 +62,7 @@ fn numbered<C: Caller>(alloc: Global, caller: &mut C, line: &str) -> Result<Told
     let number = number.ok_or("a number")?;
     match change {
         Command::News(_) | Command::Show => Err("a change".into()),
-        change => Ok(caller.call_numbered(number, change)),
+        change => Ok(call_numbered(caller, number, change)),
     }
 }
 

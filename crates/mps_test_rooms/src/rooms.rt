@@ -1,3 +1,4 @@
+//! mps_room: commands are answered by the journal, which keeps what was accepted, up to 100,000 entries.
 use crate::texts::{TWO_PAIRS, VERDICT, asked, room, told};
 use mps_base::{Name, Role, StepId};
 use mps_command::{Answer, Command, Forward, Refusal};

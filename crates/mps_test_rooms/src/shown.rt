@@ -1,3 +1,4 @@
+//! mps_show: a session is shown as the JSON of its history and its replay, as text and as value.
 ghost use Rattle.std.specs.Prelude.{◌<◌, length};
 
 use crate::texts::{VERDICT, asked, opened};

@@ -1,3 +1,4 @@
+//! mps_session: sessions with loops and choices, which types open one, and 100,000 numbers.
 use crate::steps::Line::{Asks, Count, Keeps, Moves, Step, Undoes, Waits};
 use crate::steps::{A, Ask, B, C, Line, Opening, answer, name, opened, opens_so, play, role_of};
 use crate::tables::are_labels;
@@ -445,7 +446,7 @@ fn of_nodes(rt: &(impl Abort + AllocGlobal), nodes: usize) -> Local {
     }
 }
 
-// A choice of so many nodes in all, with at most 61 of them in a branch.
+// A choice of so many nodes in all, with at most 61 of them in a branch, since a path has 64 at most.
 fn with_nodes(rt: &(impl Abort + AllocGlobal), count: usize) -> Local {
     let mut branches = Branches::NoMore;
     let mut left = count.saturating_sub(1);

@@ -1,3 +1,4 @@
+//! mps_session: a commit stays, and so does all that it depends on.
 use crate::choices::giving;
 use crate::rollbacks::TWO_PAIRS;
 use crate::steps::Line::{Asks, Count, GoesBack, Keeps, Moves, RollsBack, Step, Undoes, Waits};

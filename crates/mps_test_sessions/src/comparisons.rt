@@ -1,3 +1,4 @@
+//! mps_session: two sessions are the same where each role did the same, and a refused rollback changes nothing.
 ghost use Rattle.std.specs.Prelude.{◌≡◌};
 ghost use Rattle.mps_global.specs.Global.{plain};
 ghost use Rattle.mps_local.specs.Outcome.{AreProjections};

@@ -1,3 +1,4 @@
+//! mps_links: the least step that depends on another, all that do, and the least commit among them.
 ghost use Rattle.std.specs.Prelude.{◌≡◌, ◌<◌, [], IsTrue, IsSome};
 ghost use Rattle.mps_history.specs.Steps.{step_of};
 ghost use Rattle.mps_arena.specs.KeyedSteps.{steps};

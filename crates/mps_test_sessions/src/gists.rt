@@ -1,3 +1,4 @@
+//! mps_session: the gist of an accepted command says what its journal keeps of it.
 ghost use Rattle.std.specs.Prelude.{IsSome};
 ghost use Rattle.mps_command.specs.Changes.{change_of};
 

@@ -1,3 +1,4 @@
+//! mps_session: `serve_all` answers a list of requests one after the other.
 ghost use Rattle.std.specs.Prelude.{◌≡◌, ◌<◌, length};
 ghost use Rattle.std.specs.List.{AllByRecursion};
 

@@ -1,3 +1,4 @@
+//! mps_log, mps_arena, mps_queues: steps with links are an ordered list, and what waits is what isn't received.
 ghost use Rattle.std.specs.Prelude.{◌<◌, IsTrue, IsSome};
 ghost use Rattle.mps_arena.specs.Neighbours.{first_waiting, CanGo};
 
@@ -556,6 +557,7 @@ fn each_pair_of_eight_roles(rt: HostRuntime) {
     for pair in 0..64u8 {
         crosses(&rt, &mut log, pair / 8, pair % 8);
     }
+    // of each pair a send and a receipt
     assert_eq!(rt; log.steps().len(), 128);
 }
 

@@ -1,3 +1,4 @@
+//! mps_session: a protocol that has no fault, and types for all roles, gives a session; else its first fault is named.
 use crate::steps::Line::Asks;
 use crate::steps::{A, Ask, B, C, Line, name, play};
 use mps_base::{Name, Role, Sort, VarName};

@@ -1,3 +1,4 @@
+//! mps_session: a rollback or a return to a mark takes back what depends on the step, and nothing else.
 use crate::choices::{ask_often, giving, looping};
 use crate::commits::play_giving;
 use crate::steps::Line::{Asks, Count, GoesBack, Keeps, Moves, RollsBack, Undoes, Waits};

@@ -1,3 +1,4 @@
+//! mps_session: a step is accepted or refused by name, moves its message, binds its slot, and shows in the session.
 ghost use Rattle.std.specs.Prelude.{◌<◌, length};
 
 use mps_base::{Act, Message, Name, Role, Sort, StepId, Value};

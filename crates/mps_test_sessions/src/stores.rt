@@ -1,3 +1,4 @@
+//! mps_stores: names are bound in order, and a binding that is taken back gives the one before it.
 ghost use Rattle.std.specs.Prelude.{◌<◌};
 
 use mps_arena::{Arena, Before, Key};
@@ -131,6 +132,7 @@ fn keeps_each_role_apart(rt: HostRuntime) {
     shows(&rt, &stores, Role::new(6), &keys, &[("x", 6)]);
 }
 
+// More names than the 8 that a store compares one by one; it finds these by their hashes.
 const LETTERS: &[&str] = &[
     "a", "b", "c", "d", "e", "f", "g", "h", "i", "j", "k", "l", "m", "n", "o", "p", "q", "r", "s",
     "t", "u", "v",

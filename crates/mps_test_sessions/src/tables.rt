@@ -1,3 +1,4 @@
+//! mps_table: a table shows at each node what the type allows there, and a type with a fault is refused by it.
 ghost use Rattle.std.specs.Prelude.{IfSome};
 ghost use Rattle.mps_table.specs.Graph.{IsNode};
 

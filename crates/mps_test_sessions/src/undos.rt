@@ -1,3 +1,4 @@
+//! mps_session: an undo removes a step on which none depends, and else names the least that does.
 use crate::choices::{ask_often, giving, looping};
 use crate::commits::play_giving;
 use crate::steps::Line::{Asks, Count, Keeps, Moves, Undoes, Waits};

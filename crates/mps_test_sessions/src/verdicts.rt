@@ -1,3 +1,4 @@
+//! mps_monitor: a command is allowed, or refused for the first violation, and leads to the node of what comes next.
 ghost use Rattle.std.specs.Prelude.{IfOk};
 ghost use Rattle.mps_table.specs.Graph.{IsNode};
 

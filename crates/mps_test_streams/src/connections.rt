@@ -1,9 +1,10 @@
+//! mps_hub: what a connection comes to, and that its pass, with its steps and newest answer, goes back to the desk.
 ghost use Rattle.std.specs.Prelude.{◌≡◌, ◌≤◌, ◌^◌, false, IfOk};
 
 use crate::protocols::{VERDICT, names, opened, types};
 use mps_cell::PassFault;
 use mps_dev::{Pieces, Short};
-use mps_hub::{Attended, Desk, Hub, Unguarded, attend, no_keepers};
+use mps_hub::{Attended, Desk, Hub, Serving, Unguarded};
 use mps_wire::Ending;
 use std::alloc::Global;
 use std::sync::Wait;
@@ -46,12 +47,7 @@ fn is_played<R: Wait + 'static>(
     let (sent, fails_from, space, answers, ended) = row;
     let mut reader = Pieces::new(vec![in alloc; Vec::from_slice(alloc, sent)?]?, *fails_from);
     let mut writer = Short::new(alloc, *space)?;
-    let attended = attend(
-        rt,
-        alloc,
-        desk,
-        &Unguarded,
-        no_keepers(),
+    let attended = Serving::unrecorded(rt, alloc, desk, &Unguarded).attend(
         1,
         &mut reader,
         &mut writer,

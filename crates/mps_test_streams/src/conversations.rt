@@ -1,3 +1,4 @@
+//! mps_wire: a conversation answers each whole line before the next, in any pieces, wherever it breaks off.
 use crate::pieces::{
     Way, cut_long_line, empty_lines, fails_from, in_one_piece, in_single_bytes, in_two_pieces,
     refused_lines, room, told_by,
@@ -87,6 +88,7 @@ fn entries_in_space(alloc: Global, space: usize, end: Ending) -> Result<Option<u
     entries_after(alloc, pieces, room(space), want, end)
 }
 
+// Each of the two answers has 7 bytes.
 #[test]
 fn writes_each_byte_once(rt: HostRuntime) -> Result<(), Fail> {
     for space in 0..14 {
@@ -306,7 +308,7 @@ fn letters_and_ends(alloc: Global, count: usize) -> Result<Vec<Vec<u8>>, Fail> {
     Ok(pieces)
 }
 
-// Whether a conversation over these pieces ends so, with so many lines refused.
+// Whether a conversation over these pieces ends so, with so many lines refused: a million at most, with 13 bytes each.
 fn ends_after_lines(
     alloc: Global,
     pieces: Vec<Vec<u8>>,

@@ -3,7 +3,7 @@ ghost use Rattle.std.specs.Prelude.{◌≡◌, false, IfOk};
 
 use mps_base::{Name, Role, Roles, Sort};
 use mps_dev::{Pieces, Short};
-use mps_hub::{Attended, Desk, Hub, Unguarded, attend, no_keepers};
+use mps_hub::{Attended, Desk, Hub, Serving, Unguarded};
 use mps_local::Local;
 use mps_session::OpenFault;
 use mps_wire::Ending;
@@ -85,12 +85,7 @@ fn attended<R: Wait + 'static>(
 ) -> Result<Attended, Fail> {
     let mut reader = Pieces::new(pieces, None);
     let mut writer = Short::new(alloc, 99)?;
-    let ended = attend(
-        rt,
-        alloc,
-        desk,
-        &Unguarded,
-        no_keepers(),
+    let ended = Serving::unrecorded(rt, alloc, desk, &Unguarded).attend(
         1,
         &mut reader,
         &mut writer,
@@ -160,6 +155,7 @@ fn ended_at<R: Wait + 'static>(
     attended(rt, alloc, desk, long_line(alloc, letters)?, answers)
 }
 
+// A first line is read byte by byte: after 999,999 letters the LF is the millionth.
 #[test]
 fn looks_for_a_first_line_in_a_million_reads(rt: HostRuntime) -> Result<(), Fail> {
     let mut hub = hub(rt.alloc())?;

@@ -5,8 +5,8 @@ use crate::protocols::{RELAY, names, opened, types};
 use mps_base::{Role, Roles, StepId};
 use mps_command::{Command, Forward};
 use mps_dev::{OverRead, Pieces, Short};
-use mps_hub::{Attended, Desk, Hub, SessionFault, Unguarded, attend, no_keepers};
-use mps_keeper::{Book, NotRestored, Recorded, Recorder, RestoreFault, Unaccepted, restore_lines};
+use mps_hub::{Attended, Desk, Hub, Serving, Unguarded};
+use mps_keeper::{Book, Guest, Recorder, RestoreFault, restore_lines};
 use mps_line::{LineFault, read_journal_line, write_journal_line};
 use mps_room::{Caller, Room, Solo};
 use mps_wire::{Ending, converse};
@@ -89,7 +89,7 @@ const ASKED: &[u8] =
 const KEPT: &[u8] = b"a 1 send b 5\na 2 mark m\na mark k\na 3 undo 3\n";
 
 // A caller with a book.
-type Keeping = Recorded<Book<Short>, Solo>;
+type Keeping = Guest<'static, Unguarded, Book<Short>, Solo>;
 
 // The caller of the role at that place in a new relay.
 fn solo(alloc: Global, place: usize) -> Result<Solo, Fail> {
@@ -104,7 +104,7 @@ fn solo(alloc: Global, place: usize) -> Result<Solo, Fail> {
 fn with_book(alloc: Global, lines: u64, space: usize) -> Result<Keeping, Fail> {
     let solo = solo(alloc, 0)?;
     let book = Book::new(Short::new(alloc, space)?, lines);
-    Ok(Recorded::new(book, solo, Vec::new(alloc)))
+    Ok(Guest::new(&Unguarded, 1, book, solo, Vec::new(alloc)))
 }
 
 // How the conversation ends, and what is told.
@@ -150,7 +150,7 @@ fn keeps_what_is_accepted(rt: HostRuntime) -> Result<(), Fail> {
 }
 
 // How many lines are told where the book takes so many bytes: an answer for each whole line of a, two of which are told
-// twice, and what changes nothing up to there.
+// twice, and what changes nothing up to there. The lines end at the bytes 13, 24, 33 and 44.
 fn is_cut(alloc: Global, space: usize) -> Result<bool, Fail> {
     let kept = kept_by(alloc, 0, space)?;
     let answers = kept.told.iter().filter(|&&byte| byte == b'\n').count();
@@ -181,6 +181,80 @@ fn tells_nothing_that_is_not_kept(rt: HostRuntime) -> Result<(), Fail> {
     Ok(())
 }
 
+// A recorder that keeps how many lines it was last waited for.
+#[derive(Drop)]
+struct Waits {
+    lines: u64,
+    is_whole: bool,
+}
+
+impl Recorder for Waits {
+    ghost use Rattle.std.specs.Prelude.{None, true};
+
+    ghost records = { λ _. true };
+
+    ghost taken = { λ _. None };
+
+    ghost whole = { λ w. w.is_whole };
+
+    fn records(&self) -> bool {
+        true
+    }
+
+    fn is_whole(&self) -> bool {
+        self.is_whole
+    }
+
+    fn add(&mut self, _nth: u64, _line: &[u8]) {}
+
+    fn settle(&mut self, lines: u64) {
+        self.lines = lines;
+    }
+
+    fn lose(&mut self) {
+        self.is_whole = false;
+    }
+}
+
+// A guest of the caller whose recorder wasn't waited for yet.
+fn waiting(alloc: Global, solo: Solo) -> Guest<'static, Unguarded, Waits, Solo> {
+    let waits = Waits {
+        lines: 0,
+        is_whole: true,
+    };
+    Guest::new(&Unguarded, 1, waits, solo, Vec::new(alloc))
+}
+
+// How many lines were waited for when a question, or a refusal, was answered after a step.
+fn waited_for(alloc: Global, lines: &[u8]) -> Result<u64, Fail> {
+    let mut guest = waiting(alloc, solo(alloc, 0)?);
+    let mut reader = OverRead::new(lines);
+    let mut writer = Short::new(alloc, 2_000)?;
+    match converse(alloc, &mut guest, &mut reader, &mut writer) {
+        Ending::Closed => Ok(guest.recorder.lines),
+        _ => Err("to its end".into()),
+    }
+}
+
+#[test]
+fn waits_for_what_it_tells_of(rt: HostRuntime) -> Result<(), Fail> {
+    let alloc = rt.alloc();
+    assert!(rt; waited_for(alloc, b"mark m\n")? == 0);
+    assert!(rt; waited_for(alloc, b"mark m\nnews 0\n")? == 1);
+    assert!(rt; waited_for(alloc, b"mark m\nmark m\nundo 9\n")? == 2);
+    Ok(())
+}
+
+#[test]
+fn waits_for_what_was_shown_before(rt: HostRuntime) -> Result<(), Fail> {
+    let alloc = rt.alloc();
+    let mut caller = solo(alloc, 0)?;
+    let _marked = caller.call(Command::Forward(Forward::Commit));
+    assert!(rt; caller.room.entries() == 1);
+    assert!(rt; waiting(alloc, caller).recorder.lines == 1);
+    Ok(())
+}
+
 // ---- restoring
 
 // A caller for each role of the relay, each with a room of its own.
@@ -199,35 +273,36 @@ fn callers(alloc: Global, roles: &Roles) -> Result<Vec<Solo>, Fail>
 }
 
 // A text, and what restoring it comes to: so many lines of so many bytes; or the line that isn't restored, and why.
-const TEXTS: &[(&str, Result<(u64, usize), (u64, Unaccepted)>)] = &[
+const TEXTS: &[(&str, Result<(u64, usize), RestoreFault>)] = &[
     ("", Ok((0, 0))),
     ("a send b 5\n", Ok((1, 11))),
     ("a send b 5\nb 1 mark m\nb 2 mark", Ok((2, 22))),
-    ("a send b 5\n\n", Err((2, Unaccepted::Bad))),
+    ("a send b 5\n\n", Err(RestoreFault::Unreadable { line: 2 })),
     (
         "a send b 5\na send b 5\nund\n",
-        Err((2, Unaccepted::Refused)),
+        Err(RestoreFault::Refused { line: 2 }),
     ),
-    ("a 2 mark m\n", Err((1, Unaccepted::Refused))),
-    ("a 1 mark m\na 1 mark m\n", Err((2, Unaccepted::Refused))),
+    ("a 2 mark m\n", Err(RestoreFault::Refused { line: 1 })),
+    (
+        "a 1 mark m\na 1 mark m\n",
+        Err(RestoreFault::Refused { line: 2 }),
+    ),
     (
         "a 1 mark m\na 2 undo 1\na 4 mark m\n",
-        Err((3, Unaccepted::Refused)),
+        Err(RestoreFault::Refused { line: 3 }),
     ),
-    ("show\n", Err((1, Unaccepted::Bad))),
+    ("show\n", Err(RestoreFault::Unreadable { line: 1 })),
 ];
 
 fn is_restored(
     alloc: Global,
     text: &str,
-    comes: Result<(u64, usize), (u64, Unaccepted)>,
+    comes: Result<(u64, usize), RestoreFault>,
 ) -> Result<bool, Fail> {
     let roles = names(alloc, 3)?;
     let mut callers = callers(alloc, &roles)?;
-    match restore_lines(alloc, &roles, &mut callers, text.as_bytes()) {
-        Ok(restored) => Ok(comes == Ok((restored.lines, restored.bytes))),
-        Err(NotRestored { line, fault }) => Ok(comes == Err((line, fault))),
-    }
+    let restored = restore_lines(alloc, &roles, &mut callers, text.as_bytes());
+    Ok(restored.map(|r| (r.lines, r.bytes)) == comes)
 }
 
 #[test]
@@ -271,12 +346,7 @@ fn answers<R: Wait + 'static>(
 ) -> Result<Vec<u8>, Fail> {
     let mut reader = Pieces::new(vec![in alloc; Vec::from_slice(alloc, lines)?]?, None);
     let mut writer = Short::new(alloc, 2_000)?;
-    let ended = attend(
-        rt,
-        alloc,
-        desk,
-        &Unguarded,
-        no_keepers(),
+    let ended = Serving::unrecorded(rt, alloc, desk, &Unguarded).attend(
         1,
         &mut reader,
         &mut writer,
@@ -343,10 +413,7 @@ fn names_the_first_bad_line(rt: HostRuntime) -> Result<(), Fail> {
     let mut hub = hub(alloc)?;
     let desk = hub.desk(alloc)?;
     let mut lines = OverRead::new(b"a send b 5\nb recv c x\nund\n".as_slice());
-    let fault = SessionFault::Journal(RestoreFault::Line(NotRestored {
-        line: 2,
-        fault: Unaccepted::Refused,
-    }));
+    let fault = RestoreFault::Refused { line: 2 };
     assert!(rt; desk.restore(&rt, alloc, 1, &mut lines) == Err(fault));
     Ok(())
 }

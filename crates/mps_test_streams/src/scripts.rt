@@ -1,3 +1,4 @@
+//! mps_wire: a script's lines are answered in order, whatever pieces they come in and wherever it breaks off.
 ghost use Rattle.std.specs.Prelude.{◌≡◌, ◌<◌, ◌^◌};
 ghost use Rattle.mps_dev.specs.Pieces.{calls_of};
 
@@ -11,7 +12,7 @@ use mps_dev::{Pieces, Short, Source};
 use mps_lines::MAX_LINE;
 use mps_local::{Branches, Local};
 use mps_session::{LocalFault, OpenFault};
-use mps_wire::script::BLOCK;
+use mps_wire::script::SCRIPT_BLOCK;
 use mps_wire::{ReplayFault, replay, replay_session};
 use std::alloc::Global;
 use std::test::Fail;
@@ -342,7 +343,13 @@ fn is_long_in_two(alloc: Global, length: usize) -> Result<bool, Fail> {
 
 #[test]
 fn answers_long_lines(rt: HostRuntime) -> Result<(), Fail> {
-    for length in [MAX_LINE, MAX_LINE + 1, BLOCK, BLOCK + 1, 1_000_001] {
+    for length in [
+        MAX_LINE,
+        MAX_LINE + 1,
+        SCRIPT_BLOCK,
+        SCRIPT_BLOCK + 1,
+        1_000_001,
+    ] {
         assert!(rt; is_long(rt.alloc(), length)?, "of {length}");
     }
     for length in [MAX_LINE, MAX_LINE + 1, 100_000] {
@@ -449,7 +456,7 @@ fn reads_a_block_at_a_time(rt: HostRuntime) -> Result<(), Fail> {
     Ok(())
 }
 
-// Whether so many empty lines, each read by itself, end so, with so many of them answered.
+// Whether so many empty lines, each read by itself, end so, with so many of them answered: with 13 bytes each.
 fn ends_after_lines(
     alloc: Global,
     pieces: usize,
@@ -726,7 +733,7 @@ fn is_unguarded(alloc: Global) -> Result<bool, Fail> {
     is_not_opened(alloc, Local::End, idle(alloc)?, unguarded)
 }
 
-// How many outputs of a are too many, in which way.
+// How many outputs of a are too many, in which way: with the end 64 are 65 levels, and 256 are 257 nodes.
 const PAST_A_LIMIT: &[(usize, LocalFault)] = &[
     (64, LocalFault::TooDeep),
     (255, LocalFault::TooDeep),

@@ -1,3 +1,4 @@
+//! mps_line: a line is read exactly where it spells a command, and a command is written as that line.
 ghost use Rattle.std.specs.Prelude.{◌≡◌, IfOk};
 ghost use Rattle.mps_line.specs.Commands.{NamesRolesOf};
 

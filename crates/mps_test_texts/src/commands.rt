@@ -1,3 +1,4 @@
+//! mps_command: a copy of a command, a change, an answer or a list of numbers is equal to it.
 use mps_base::{Name, Role, Roles, StepId};
 use mps_command::*;
 use mps_line::{Reply, append_answer, read_answer, read_command};

@@ -1,3 +1,4 @@
+//! mps_dev: sources and sinks give and take their bytes, fail from the call on that they should, and ask std once.
 ghost use Rattle.std.specs.Prelude.{◌+◌, ◌^◌, ◌<◌, ◌≤◌, take, IfOk};
 ghost use Rattle.std.specs.Io.KnownBytes.{Appends, Consumes};
 

@@ -1,3 +1,4 @@
+//! mps_lines: the same lines come out whatever pieces the bytes come in, and of too long ones a front is kept.
 ghost use Rattle.std.specs.Prelude.{◌≡◌, [], drop, slice_get, IsTrue};
 
 use Told::{NotAscii, Text, TooLong};
@@ -156,6 +157,7 @@ fn lines_and_rests_of_512_bytes_and_more(rt: HostRuntime) {
 // What a very long line and a short one are told as.
 const LONG_AND_SHORT: &[Told] = &[TooLong, Text(b"pick a")];
 
+// Sizes of pieces: a byte, the longest line and one byte more, a block as scripts are read by, and more than all bytes.
 const SIZES: &[usize] = &[1, 512, 513, 65_536, 100_000, 200_000];
 
 #[test]

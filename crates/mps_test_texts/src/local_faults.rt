@@ -1,3 +1,4 @@
+//! mps_local: a local type's first fault is found, the limits first, in types of any size.
 use crate::projections::{name, variable};
 use mps_base::{Role, Sort};
 use mps_local::{
@@ -150,6 +151,7 @@ const FAULTY: &[(&[Part<'static>], LocalFault)] = &[
 fn names_each_fault(rt: HostRuntime) {
     for row in FAULTY {
         tells(&rt, 0, row.0, Some(row.1));
+        // below so many outputs that few levels of the 64 are left
         tells(&rt, 50, row.0, Some(row.1));
     }
 }
@@ -216,7 +218,7 @@ fn names_the_first_fault_in_preorder(rt: HostRuntime) {
     }
 }
 
-// How many outputs stand before the end, and the fault.
+// How many outputs stand before the end, and the fault. With the end 63 are 64 levels, and 255 are 256 nodes.
 const LENGTHS: &[(u32, Option<LocalFault>)] = &[
     (63, None),
     (64, Some(LocalFault::TooDeep)),

@@ -1,3 +1,4 @@
+//! mps_local: each role's projection, or the first choice that can't be merged; and deep and wide types.
 ghost use Rattle.std.specs.Prelude.{◌≡◌, ◌<◌, IfOk, length};
 ghost use Rattle.mps_local.specs.Local.{plain, plain_branches};
 ghost use Rattle.mps_local.specs.Shape.{AllPeers, AllBranchPeers};

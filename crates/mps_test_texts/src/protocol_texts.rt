@@ -1,3 +1,4 @@
+//! mps_text: a text is read as its protocol, or its first fault is named with its byte; what is written is read again.
 use mps_base::{Name, Sort, VarName};
 use mps_global::{Branches, Global, Protocol, check};
 use mps_text::{
@@ -281,7 +282,8 @@ fn names_what_stands_after_a_protocol(rt: HostRuntime) {
     have_faults(&rt, TextKind::Trailing, TRAILING);
 }
 
-// How many messages a chain has, what stands after them, and the fault.
+// How many messages a chain has, what stands after them, and the fault. With the 12 bytes in front and 15 for each
+// message the node after 64 of them, at level 65, begins at byte 972.
 const CHAINS: &[(usize, &[u8], Option<Fault>)] = &[
     (63, b"end", None),
     (64, b"end", Some((TextKind::TooDeep, 972))),

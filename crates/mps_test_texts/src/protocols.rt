@@ -1,3 +1,4 @@
+//! mps_global: `check` names a protocol's first fault, and deep and wide trees are dropped.
 use crate::projections::{Part, branches, chain, in_front, more, name, protocol};
 use mps_base::Sort::Int;
 use mps_global::{Branches, Global, GlobalFault, check, protocol_laws, size_laws};
@@ -29,6 +30,7 @@ const EIGHT: &[&str] = &["a", "b", "c", "d", "e", "f", "g", "h"];
 
 const NINE: &[&str] = &["a", "b", "c", "d", "e", "f", "g", "h", "i"];
 
+// Roles, how many messages stand before the end, and the fault. With the end 63 are 64 levels, and 255 are 256 nodes.
 const LEVELS: &[(&[&str], u32, Checked)] = &[
     (TWO, 0, Ok(())),
     (EIGHT, 1, Ok(())),
@@ -204,6 +206,7 @@ fn checks_variables(rt: HostRuntime) {
 // A choice with one branch, which holds one, and so on.
 const NESTED: &Part<'static> = &Part::Choice("a", "b", &["l"]);
 
+// 150,000 levels run the stack out where a function calls itself for each.
 #[test]
 fn drops_deep_trees(rt: HostRuntime) {
     is_checked(&rt, TWO, many(&rt, 63, NESTED), Ok(()));
@@ -278,6 +281,7 @@ fn eight(rt: &(impl Abort + AllocGlobal), last: u32) -> Global {
     choice(rt, "a", "b", branches)
 }
 
+// The choice, seven branches of 32 nodes and one of 31 make 256.
 #[test]
 fn counts_nodes_over_branches(rt: HostRuntime) {
     is_checked(&rt, TWO, eight(&rt, 30), Ok(()));

@@ -1,3 +1,4 @@
+//! mps_line: a reply is read exactly where it has a reply's form, and has its code; and so are first lines.
 ghost use Rattle.std.specs.Prelude.{◌≡◌, IfOk};
 
 use mps_base::write_number;

@@ -1,3 +1,4 @@
+//! mps_base: names, variables, values, numbers and lists of roles are read exactly where they are spelled so.
 use mps_base::*;
 use std::alloc::{AllocGlobal, Global};
 use std::process::Abort;

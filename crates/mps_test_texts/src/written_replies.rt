@@ -1,3 +1,4 @@
+//! mps_line: each answer is written as its one text.
 use mps_base::{Message, Name, StepId, Value};
 use mps_command::{Answer, Done, Refusal, ShownText, StepIds, Violation};
 use mps_line::Reply;

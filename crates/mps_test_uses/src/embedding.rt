@@ -1,3 +1,4 @@
+//! mps_embed and mps_open, as a user calls them: a room answers each role's lines, or a fault says why there is none.
 use crate::sessions::RELAY;
 use mps_embed::Embedded;
 use mps_open::open_text;
@@ -76,6 +77,7 @@ fn embeds_numbers_of_each_role(rt: HostRuntime) {
     assert!(rt; numbered);
 }
 
+// The numbers of a malformed word, of a role that sends to itself, and of no type for the role at place 2: 48 and 2.
 #[test]
 fn names_why_a_text_gives_no_session(rt: HostRuntime) {
     let alloc = rt.alloc();

@@ -1,3 +1,4 @@
+//! mps_room and mps_wire, as a user calls them: a room's commands, and a role's conversation.
 ghost use Rattle.std.specs.Prelude.{◌≡◌, length, IfOk};
 ghost use Rattle.mps_machine.specs.Machine.{initial};
 
@@ -5,7 +6,7 @@ use crate::sessions::RELAY;
 use mps_base::{Role, Roles, StepId};
 use mps_command::{Answer, Command, Refusal};
 use mps_dev::{Pieces, Short};
-use mps_room::{Caller, Room, Solo, Told};
+use mps_room::{Caller, Room, Solo, Told, call_numbered};
 use mps_session::{Session, open_protocol};
 use mps_text::read_protocol;
 use mps_wire::{Ending, converse};
@@ -38,7 +39,7 @@ fn calls_a_room(rt: HostRuntime) -> Result<(), Fail> {
     let (length, ids) = room.news(b, 0)?;
     assert!(rt; length == 0 && ids.as_slice().is_empty());
     let mut caller = Solo::new(room, a);
-    let told = caller.call_numbered(1, Command::Undo(StepId::new(2)));
+    let told = call_numbered(&mut caller, 1, Command::Undo(StepId::new(2)));
     assert!(rt; matches!(told, Told::Refused(Refusal::NoStep)));
     Ok(())
 }

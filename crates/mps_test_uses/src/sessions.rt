@@ -1,3 +1,4 @@
+//! mps_session, as a user calls it: a session of a protocol or of types, in which a step is taken back.
 use mps_base::{Role, Value};
 use mps_command::Forward;
 use mps_global::check;

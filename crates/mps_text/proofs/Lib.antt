@@ -1,3 +1,4 @@
+-- The lemmas of mps_text, a file each; other crates may use those with `pub`.
 pub mod Names
 pub mod Lexemes
 pub mod Steps

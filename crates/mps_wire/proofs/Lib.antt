@@ -1,3 +1,4 @@
+-- The lemmas of mps_wire, a file each; other crates may use those with `pub`.
 pub mod Bytes
 pub mod Serving
 pub mod Answering

@@ -1,6 +1,7 @@
 -- What a run comes to, from the streams before it to those after.
 use Rattle.std.specs.Prelude.{◌≡◌, ℕ, ◌+◌, ◌≤◌, ◌⊎◌, List, [], Result, Ok, Err, length}
 use Rattle.std.specs.Io.KnownBytes.{Appends, Consumes, IsAtEnd}
+use Rattle.mps_dev.specs.Reads.{max_reads}
 use Rattle.mps_local.specs.Local.{LocalType}
 use Rattle.mps_session.specs.Peers.{CanOpen, KeepsShut}
 use Rattle.mps_session.specs.declared.open.OpenFault.{OpenFault}
@@ -12,10 +13,6 @@ use Rattle.mps_wire.specs.Answers.{Answering, AnswersBytes, AnswersLines, Breaks
 use Rattle.mps_wire.specs.Script.{AnswersLine}
 use Rattle.mps_wire.specs.Streams.{Streams, Counts, Counted, all_went_well, at_the_end, one_read_ended, one_read_failed}
 use Rattle.mps_wire.specs.Streams.{one_write_failed}
-
--- how often a stream is read from at most
-abbrev pub max_reads : ℕ
-max_reads = 1000000
 
 -- The lines of a source and the answers to a sink, from a state on.
 module _ {S : Type 0} (answers : Answering S) (start : S) (before after : Streams) where

@@ -10,20 +10,20 @@ ghost use Rattle.mps_wire.specs.declared.conversation.Broken.TheVariants.{Memory
 ghost use Rattle.mps_wire.specs.Endings.{EndedAs};
 ghost use Rattle.mps_wire.specs.Private.Endings.{TurnedTo, IsBrokenOff, IsWholly, TakesOn, TakesBrokenOff, begun_or};
 ghost use Rattle.mps_wire.specs.Private.Endings.{failed_by};
-ghost use Rattle.mps_wire.specs.Runs.{Going, max_reads};
+ghost use Rattle.mps_dev.specs.Reads.{max_reads};
+ghost use Rattle.mps_wire.specs.Runs.{Going};
 ghost use Rattle.mps_wire.specs.Streams.{streams};
 
 use crate::reply::{Outcome, take_line, write_outcome};
-use crate::script::MAX_READS;
 use crate::sending::send_all;
-use mps_dev::{Failed, Sink, Source};
+use mps_dev::{Failed, MAX_READS, Sink, Source};
 use mps_lines::{keep, line_end};
 use mps_room::Caller;
 use std::alloc::{AllocError, Global};
 use thiserror::Error;
 
 /// How many bytes a conversation asks for at a time.
-pub const BLOCK: usize = 4_096;
+pub const CONVERSATION_BLOCK: usize = 4_096;
 
 /// How a conversation ended.
 #[derive(Clone, Copy, Debug, PartialEq, Eq)]
@@ -208,7 +208,7 @@ fn read_and_answer<C: Caller, R: Source, W: Sink>(
 ///
 /// A line may begin with a number and a space (`read_numbered`). A client that lost an answer sends the same line
 /// again: the command isn't run a second time, and its answer is written again. At the end a rest that no LF ends
-/// isn't run. The reader is asked for `BLOCK` bytes at a time, `MAX_READS` times at most. After `Closed`, `ReadFault`
+/// isn't run. The reader is asked for `CONVERSATION_BLOCK` bytes at a time, `MAX_READS` times at most. After `Closed`, `ReadFault`
 /// or `Turns` each whole line that was read is answered; after `WriteFault` or `Memory` the first of them are, and the
 /// answer of the last of these may break off, or not be written at all. After `Untold` the answer of the last isn't
 /// written, since the caller says that it may not be told.
@@ -235,7 +235,7 @@ pub fn converse<C: Caller, R: Source, W: Sink>(
         text: Vec::new(alloc),
         alloc,
     };
-    let Ok(mut block) = vec![in alloc; 0u8; BLOCK] else {
+    let Ok(mut block) = vec![in alloc; 0u8; CONVERSATION_BLOCK] else {
         return Ending::Memory;
     };
     for _ in 0..MAX_READS {

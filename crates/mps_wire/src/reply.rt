@@ -11,7 +11,7 @@ use mps_command::{Answer, Command, Refusal};
 use mps_line::laws::one_numbered;
 use mps_line::{LineFault, Reply, append_answer, read_numbered};
 use mps_lines::MAX_LINE;
-use mps_room::{Caller, Told};
+use mps_room::{Caller, Told, call_numbered};
 use std::alloc::{AllocError, Global};
 
 /// What a line of a conversation came to. No memory is needed to have it, so it is there also where there is none for
@@ -30,7 +30,7 @@ fn take_numbered<C: Caller>(caller: &mut C, number: u64, command: Command) -> Ou
     requires { IsSome (change_of command) }
     ensures { RepliesToNumbered C.Caller caller.old number command (reply_of result (C.kept caller.new)) caller.new }
 {
-    match caller.call_numbered(number, command) {
+    match call_numbered(caller, number, command) {
         Told::Fresh => Outcome::Kept,
         Told::Kept => Outcome::Kept,
         Told::Wrong => Outcome::Reply(Reply::Number),

@@ -8,7 +8,8 @@ ghost use Rattle.mps_machine.specs.Machine.{initial};
 ghost use Rattle.mps_wire.specs.Private.Places.{TakesBytes, TakesEnd, answering_of, place_of_run};
 ghost use Rattle.mps_wire.specs.Sending.{TookFront};
 ghost use Rattle.mps_lines.specs.Lines.{ended, front, most_kept};
-ghost use Rattle.mps_wire.specs.Runs.{Going, Replayed, ScriptRan, max_reads, of_opening};
+ghost use Rattle.mps_dev.specs.Reads.{max_reads};
+ghost use Rattle.mps_wire.specs.Runs.{Going, Replayed, ScriptRan, of_opening};
 ghost use Rattle.mps_wire.specs.Private.Turns.{Turned};
 ghost use Rattle.mps_wire.specs.Script.{AnswersLine};
 ghost use Rattle.mps_wire.specs.Private.Commands.{IsReplied};
@@ -18,7 +19,7 @@ ghost use Rattle.mps_wire.specs.declared.script.ReplayFault.TheVariants.{Memory 
 use crate::sending::send_all;
 use mps_base::{Role, Roles};
 use mps_command::{Command, Refusal};
-use mps_dev::{Failed, Sink, Source};
+use mps_dev::{Failed, MAX_READS, Sink, Source};
 use mps_line::laws::one_script_line;
 use mps_line::{LineFault, append_answer, read_script_line, write_bad_line, write_refused};
 use mps_lines::{MAX_LINE, keep, line_end};
@@ -28,11 +29,8 @@ use mps_session::{OpenFault, Session};
 use std::alloc::{AllocError, Global};
 use thiserror::Error;
 
-/// How often a script is read from at most.
-pub const MAX_READS: u64 = 1_000_000;
-
 /// How many bytes are asked for at a time.
-pub const BLOCK: usize = 65_536;
+pub const SCRIPT_BLOCK: usize = 65_536;
 
 /// Why a script was not run to its end.
 #[derive(Clone, Copy, Debug, PartialEq, Eq, Error)]
@@ -296,7 +294,7 @@ fn read_and_answer<R: Source, W: Sink>(
 /// answer to each line. Gives the room.
 ///
 /// The answers to the lines of one read are written before the next read. A last line needs no LF.
-/// The reader is asked for `BLOCK` bytes at a time, `MAX_READS` times at most.
+/// The reader is asked for `SCRIPT_BLOCK` bytes at a time, `MAX_READS` times at most.
 pub fn replay_session<R: Source, W: Sink>(
     alloc: Global,
     reader: &mut R,
@@ -319,7 +317,7 @@ pub fn replay_session<R: Source, W: Sink>(
         answers: Vec::new(alloc),
         alloc,
     };
-    let mut block = vec![in alloc; 0u8; BLOCK]?;
+    let mut block = vec![in alloc; 0u8; SCRIPT_BLOCK]?;
     for _ in 0..MAX_READS {
         if read_and_answer(reader, writer, &mut run, block.as_mut_slice())? {
             return Ok(run.room);

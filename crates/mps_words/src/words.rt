@@ -9,13 +9,13 @@ use crate::command::{JournalFolder, Order, Task};
 use crate::faults::{UseFault, usage};
 use clap::builder::ValueParser;
 use clap::error::ErrorKind;
-use clap::{Arg, ArgAction, ArgMatches, Command, Error};
+use clap::{Arg, ArgAction, ArgGroup, ArgMatches, Command, Error};
 use std::alloc::{AllocError, Global};
 use std::rt::Env;
 use std::{env, io};
 
 // The version of the program.
-const VERSION: &str = "0.1.0";
+const VERSION: &str = "0.2.0";
 
 // The name of the option of all commands.
 const VERBOSE: &str = "verbose";
@@ -33,8 +33,6 @@ enum Given {
     Always,
     // with a word, or not at all
     Sometimes,
-    // with a word, unless one of those other options is given
-    Unless(&'static [&'static str]),
     // without a word, or not at all
     Alone,
     // the same, together with that other option
@@ -150,8 +148,8 @@ const FIRST_SESSION: Word = Word {
 // How many connections a server accepts.
 const CONNECTIONS: Word = Word {
     name: "connections",
-    help: "How many connections are accepted, 1 to 64; needed without --journal and --endless, with which all that come are",
-    given: Given::Unless(&["journal", "endless"]),
+    help: "How many connections are accepted, 1 to 64; all that come, if it isn't given with --journal",
+    given: Given::Sometimes,
     range: Some(CONNECTION_COUNTS),
 };
 
@@ -187,12 +185,13 @@ const IDLE: Word = Word {
     range: Some(IDLE_SECONDS),
 };
 
-// A command of the program, the words that have to follow it, and its options.
+// A command of the program, the words that have to follow it, and its options. Of some options one at least is given.
 struct Form {
     name: &'static str,
     about: &'static str,
     words: &'static [Word],
     options: &'static [Word],
+    some_of: &'static [&'static str],
 }
 
 // The commands of the program.
@@ -202,18 +201,21 @@ const FORMS: &[Form] = &[
         about: "Shows each role's local type",
         words: &[FILE],
         options: &[],
+        some_of: &[],
     },
     Form {
         name: "run",
         about: "Runs a script and prints the answers",
         words: &[FILE, SCRIPT],
         options: &[STRICT],
+        some_of: &[],
     },
     Form {
         name: "same",
         about: "Says whether two scripts come to the same",
         words: &[FILE, FIRST, SECOND],
         options: &[],
+        some_of: &[],
     },
     Form {
         name: "serve",
@@ -229,6 +231,7 @@ const FORMS: &[Form] = &[
             SYNC,
             IDLE,
         ],
+        some_of: &["connections", "endless", "journal"],
     },
 ];
 
@@ -246,15 +249,15 @@ fn argument<'a>(alloc: Global, word: &Word) -> Arg<'a> {
     };
     match word.given {
         Given::Always => argument.required(true),
-        Given::Sometimes | Given::Unless(_) => argument,
+        Given::Sometimes => argument,
         Given::Alone | Given::AloneWith(_) | Given::AloneWithout(_) => {
             argument.action(ArgAction::SetTrue)
         }
     }
 }
 
-// The option of all commands that says more; it may stand before a command or after it.
-fn verbose<'a>(alloc: Global) -> Arg<'a> {
+// The option of all commands that says more; it may stand before a command or after it, once or more often.
+fn verbose<'a>(alloc: Global) -> Result<Arg<'a>, AllocError> {
     Arg::new(alloc, VERBOSE)
         .long(VERBOSE)
         .short('v')
@@ -263,13 +266,13 @@ fn verbose<'a>(alloc: Global) -> Arg<'a> {
         )
         .action(ArgAction::SetTrue)
         .global(true)
+        .overrides_with(VERBOSE)
 }
 
 // The option that takes the word, with the options on which it depends.
 fn option<'a>(alloc: Global, word: &Word) -> Result<Arg<'a>, AllocError> {
     let option = argument(alloc, word).long(word.name);
     match word.given {
-        Given::Unless(others) => option.required_unless_present_any(others),
         Given::AloneWith(other) => option.requires_arg(other),
         Given::AloneWithout(other) => option.conflicts_with(other),
         _ => Ok(option),
@@ -294,7 +297,12 @@ fn command<'a>(alloc: Global, form: &Form) -> Result<Command<'a>, AllocError> {
     for word in form.words {
         command = command.arg(argument(alloc, word))?;
     }
-    with_options(alloc, command, form.options)
+    let command = with_options(alloc, command, form.options)?;
+    if form.some_of.is_empty() {
+        return Ok(command);
+    }
+    let group = ArgGroup::new(alloc, "some").args(form.some_of)?;
+    command.group(group.multiple(true).required(true))
 }
 
 // The program with its commands.
@@ -302,7 +310,7 @@ fn program<'a>(alloc: Global) -> Result<Command<'a>, AllocError> {
     let mut program = Command::new(alloc, "mps_tool")
         .about("A monitor for multiparty sessions")
         .version(VERSION)
-        .arg(verbose(alloc))?
+        .arg(verbose(alloc)?)?
         .subcommand_required(true);
     for form in FORMS {
         program = program.subcommand(command(alloc, form)?)?;

@@ -1,3 +1,4 @@
+-- `mps_entry` meets its clause `line`.
 use Rattle.std.proofs.Common.{◌≡◌, ℕ, List, None, Some, slice_get, sym, subst}
 use Rattle.mps_embed.specs.Embedded.{EmbeddedState}
 use Rattle.mps_line.specs.JournalLines.{SpellsJournalLine}

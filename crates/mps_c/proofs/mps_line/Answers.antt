@@ -1,3 +1,4 @@
+-- `mps_line` meets its clause `known`.
 use Rattle.std.proofs.Common.{◌≡◌, Some, slice_get, sym, subst}
 use Rattle.mps_embed.specs.Embedded.{EmbeddedState, IsAnswered}
 use Rattle.mps_c.proofs.mps_line.Goals as goal

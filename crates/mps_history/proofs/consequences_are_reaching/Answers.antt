@@ -1,3 +1,4 @@
+-- Proves the law `consequences_are_reaching`, clauses `members` and `closed`, by the lemmas of Reaching.
 use Rattle.std.proofs.Common.{◌≡◌, ⊎_elim, ap, ◌∙◌}
 use Rattle.mps_base.specs.declared.action.Step.{Step}
 use Rattle.mps_history.specs.Dependence.{DependsOn, consequences}

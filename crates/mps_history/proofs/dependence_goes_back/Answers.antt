@@ -1,3 +1,4 @@
+-- Proves the law `dependence_goes_back`, by the lemmas of Reaching.
 use Rattle.mps_history.proofs.Reaching.{DependsOn-earlier}
 use Rattle.mps_history.proofs.dependence_goes_back.Goals as goal
 

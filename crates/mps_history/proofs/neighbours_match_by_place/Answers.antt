@@ -1,3 +1,4 @@
+-- Proves the law `neighbours_match_by_place`, by the lemmas of MatchingByPlace.
 use Rattle.mps_history.proofs.MatchingByPlace.{pairing}
 use Rattle.mps_history.proofs.neighbours_match_by_place.Goals as goal
 

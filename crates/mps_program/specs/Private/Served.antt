@@ -1,23 +1,12 @@
 -- What a sink took, and how the serving itself may fail.
 use Rattle.std.specs.Prelude.{◌≡◌, ⊤, ℕ, List, Option}
 use Rattle.std.specs.Io.KnownBytes.{Appends}
-use Rattle.mps_global.specs.Global.{GlobalType}
-use Rattle.mps_local.specs.Outcome.{AreProjections}
-use Rattle.mps_fidelity.specs.Fidelity.{AreOfOneProtocol}
-use Rattle.mps_machine.specs.Machine.{initial}
-use Rattle.mps_session.specs.SessionState.{SessionState}
 use Rattle.mps_hub.specs.declared.server.ServeFault.{ServeFault}
 use Rattle.mps_hub.specs.declared.server.ServeFault.TheVariants.{Accept as NotAccepted, Memory as NoMemory, Unrecorded}
 use Rattle.mps_program.specs.Journals.{IsRecordingFault}
 use Rattle.mps_program.specs.Served.{IsListeningLine, IsPortFor}
 use Rattle.mps_program.specs.declared.faults.ToolFault.{ToolFault}
 use Rattle.mps_program.specs.declared.faults.ToolFault.TheVariants.{Write, Bind, Accept, JournalLost, Memory}
-
--- a session of the protocol in which nothing was done yet
-pub record IsNewOf (roles : List (List ℕ)) (tree : GlobalType) (session : SessionState) : Type 0 where
-  pub projected : AreProjections roles tree session.types
-  pub one : AreOfOneProtocol session.types
-  pub new : session.state ≡ initial
 
 -- the sink took such a text
 abbrev pub TookOne : (List ℕ → Type 0) → Option (List ℕ) → Option (List ℕ) → Type 0

@@ -276,7 +276,7 @@ fn agrees(rt: &impl Abort, log: &Log, steps: &[Plain], roles: u8) {
     }
 }
 
-// A linear congruential generator: the same numbers in each run.
+// A linear congruential generator, with Knuth's constants (MMIX): the same numbers in each run.
 #[derive(Drop)]
 struct Dice(u64);
 

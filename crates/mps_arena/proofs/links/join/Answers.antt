@@ -1,3 +1,4 @@
+-- `join` meets its clause `nodes`, by the lemmas of Updating.
 use Rattle.std.proofs.Common.{arith}
 use Rattle.mps_arena.proofs.Updating.{updated, joined_is}
 use Rattle.mps_arena.proofs.links.join.Goals as goal

@@ -1,3 +1,4 @@
+-- `part` meets its clause `nodes`, by the lemmas of Updating.
 use Rattle.std.proofs.Common.{ℕ, None, ◌∙◌, subst}
 use Rattle.slab.specs.Slab.{Updates}
 use Rattle.mps_arena.proofs.Updating.{updated, parted_is}

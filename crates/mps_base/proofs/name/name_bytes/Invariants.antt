@@ -1,3 +1,4 @@
+-- In each turn of the loop of `name_bytes` the word has the bytes so far, and each may stand in a name.
 use Rattle.std.proofs.Common.{◌≡◌, take, IsTrue}
 use Rattle.std.specs.List.{AllByRecursion}
 use Rattle.mps_base.specs.Names.{is_name_byte}

@@ -1,3 +1,4 @@
+-- Proves the law `one_number_spelling`, clause `spelling`, by the lemmas of Numbers.
 use Rattle.mps_base.proofs.Numbers.{same_number_text}
 use Rattle.mps_base.proofs.number.one_number_spelling.Goals as goal
 

@@ -1,3 +1,4 @@
+-- `read_few` meets its clause `none` and overflows no number, by the lemmas of Digits.
 use Rattle.std.proofs.Common.{arith, ⊎_elim}
 use Rattle.std.proofs.lemmas.Str.Parse.{digit_at}
 use Rattle.mps_base.proofs.Digits.{few}

@@ -1,3 +1,4 @@
+-- `read_many` meets its clause `none` and keeps what holds in each turn of its loop, by the lemmas of Digits.
 use Rattle.std.proofs.Common.{◌+◌, arith, subst, get_or, ⊎_elim}
 use Rattle.std.proofs.lemmas.Str.{digit_value_digit}
 use Rattle.std.proofs.lemmas.Str.Parse.{digit_at}

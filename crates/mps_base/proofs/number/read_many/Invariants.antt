@@ -1,3 +1,4 @@
+-- In each turn of the loop of `read_many` the number is that of the digits so far.
 use Rattle.mps_base.proofs.Digits.{IsRead}
 use Rattle.mps_base.proofs.number.read_many.Given as goal
 

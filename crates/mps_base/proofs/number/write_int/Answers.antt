@@ -1,3 +1,4 @@
+-- `write_int` meets its clause `ok`, by the lemmas of Numbers.
 use Rattle.std.proofs.Common.{◌≡◌, ap, ◌∙◌}
 use Rattle.std.specs.Fmt.{signed_decimal}
 use Rattle.std.specs.Int.{w64}

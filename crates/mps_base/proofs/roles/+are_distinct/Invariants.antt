@@ -1,3 +1,4 @@
+-- `are_distinct` ends: at each call it has fewer names.
 use Rattle.std.proofs.Common.{length}
 use Rattle.mps_base.proofs.roles.+are_distinct.Given as goal
 

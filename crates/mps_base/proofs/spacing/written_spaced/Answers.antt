@@ -1,3 +1,4 @@
+-- Proves the law `written_spaced`, clauses `parts` and `spaced`, by the lemmas of Spaced.
 use Rattle.mps_base.proofs.Spaced.{written_parts, written_all}
 use Rattle.mps_base.proofs.spacing.written_spaced.Goals as goal
 

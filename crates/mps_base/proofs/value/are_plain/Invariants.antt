@@ -1,3 +1,4 @@
+-- In each turn of the loop of `are_plain` the flag says whether each byte so far may stand in a text.
 use Rattle.std.proofs.Common.{take, IsTrue, ◌↔◌}
 use Rattle.std.specs.List.{AllByRecursion}
 use Rattle.mps_base.specs.Texts.{IsPlainByte}

@@ -1,3 +1,4 @@
+-- `entry` meets its clause `line`, by the lemmas of Filling.
 use Rattle.std.proofs.Common.{ℕ, List, None}
 use Rattle.mps_line.specs.JournalLines.{SpellsJournalLine}
 use Rattle.mps_c.proofs.Filling.{filled_or_left}

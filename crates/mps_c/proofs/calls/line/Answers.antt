@@ -1,3 +1,4 @@
+-- `line` meets its clause `known`.
 use Rattle.std.proofs.Common.{sym, subst}
 use Rattle.mps_embed.specs.Embedded.{EmbeddedState, IsAnswered}
 use Rattle.mps_c.proofs.calls.line.Goals as goal

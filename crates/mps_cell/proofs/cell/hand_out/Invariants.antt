@@ -1,3 +1,4 @@
+-- In each turn of the loop of `hand_out` each role so far has its pass, and the first seat has the roles that are left.
 use Rattle.std.proofs.Common.{◌≡◌, ◌-◌, ◌≤◌, [], vec_len, vec_capacity}
 use Rattle.mps_cell.specs.Private.Origins.{opening_in}
 use Rattle.mps_cell.specs.Views.{dealing}

@@ -1,3 +1,4 @@
+-- Proves the law `no_call_is_a_mismatch`, by the lemmas of Faithful.
 use Rattle.mps_cell.proofs.Faithful.{call_other}
 use Rattle.mps_cell.proofs.laws.no_call_is_a_mismatch.Goals as goal
 

@@ -1,3 +1,4 @@
+-- `meet_seats` meets its clause `met` and may call `split_seat`, `join_seat` and `load`, by the lemmas of Keeping and Pairing.
 use Rattle.std.proofs.Common.{rules, arith, ap, ◌∙◌}
 use mathlib.Core.Option as maybe
 use Rattle.atomic_table.specs.Table.{step}

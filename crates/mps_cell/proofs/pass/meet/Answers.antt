@@ -1,3 +1,4 @@
+-- `meet` meets its contract, by the lemmas of Pairing.
 use Rattle.std.proofs.Common.{◌≡◌, ◌∙◌, length, ap, subst}
 use Rattle.std.specs.Ordering.{nat_cmp}
 use Rattle.mps_cell.specs.Calls.{Known, known, carried}

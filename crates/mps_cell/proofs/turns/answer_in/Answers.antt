@@ -1,3 +1,4 @@
+-- `answer_in` may call `slot_mut`, by the lemmas of Taking.
 use Rattle.mps_cell.proofs.Taking.{room_taken}
 use Rattle.mps_cell.proofs.turns.answer_in.Goals as goal
 

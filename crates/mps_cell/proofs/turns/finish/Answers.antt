@@ -1,3 +1,4 @@
+-- `finish` meets its clause `gave` and may call `give_back`, by the lemmas of Taking.
 use Rattle.mps_room.specs.Journal.{grown}
 use Rattle.mps_cell.specs.Rule.{journal_in}
 use Rattle.mps_cell.proofs.Taking.{answered, gave_by}

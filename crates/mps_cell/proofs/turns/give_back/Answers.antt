@@ -1,3 +1,4 @@
+-- `give_back` may call `store`, by the lemmas of Taking.
 use Rattle.std.proofs.Common.{rules, arith, ap, ◌*◌}
 use Rattle.mps_cell.proofs.Taking.{gives_answered}
 use Rattle.mps_cell.proofs.turns.give_back.Goals as goal

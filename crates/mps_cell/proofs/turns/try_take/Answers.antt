@@ -1,3 +1,4 @@
+-- `try_take` may call `load` and `compare_exchange`, by the lemmas of Keeping and Taking.
 use Rattle.std.proofs.Common.{rules, arith, refl}
 use Rattle.mps_cell.proofs.Keeping.{looks, tries}
 use Rattle.mps_cell.proofs.Taking.{looked_part}

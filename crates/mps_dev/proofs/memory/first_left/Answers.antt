@@ -1,3 +1,4 @@
+-- `first_left` keeps what holds in each turn of its loop, by the lemmas of PiecesLeft.
 use Rattle.std.proofs.Common.{arith}
 use Rattle.std.proofs.lemmas.Grind.{common_steps}
 use Rattle.mps_dev.proofs.PiecesLeft.{left_from-passed}

@@ -1,3 +1,4 @@
+-- In each turn of the loop of `first_left` what is left from there on is what was left at first.
 use Rattle.std.proofs.Common.{length, ◌-◌, ◌≡◌, map, vec_items}
 use Rattle.mps_dev.specs.Pieces.{left_from}
 use Rattle.mps_dev.proofs.memory.first_left.Given as goal

@@ -1,3 +1,4 @@
+-- `turn_to` meets its clause `same`.
 use native.Mathlib.Omega.{arith}
 use Rattle.std.proofs.lemmas.List.{set-set, set-get_or}
 use Rattle.mps_embed.proofs.embedded.turn_to.Goals as goal

@@ -1,3 +1,4 @@
+-- `each_has_a_line` meets its contract.
 use Rattle.std.proofs.Common.{ℕ, List, length, sym, ap, ◌∙◌, subst}
 use Rattle.mps_session.specs.Peers.{HavePeers}
 use Rattle.mps_embed.proofs.filling.each_has_a_line.Goals as goal

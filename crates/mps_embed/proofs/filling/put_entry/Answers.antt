@@ -1,3 +1,4 @@
+-- `put_entry` may call `write_journal_line`.
 use Rattle.std.proofs.Common.{ℕ, List, sym, ◌∙◌, subst}
 use Rattle.mps_line.specs.JournalLines.{CanBeWritten}
 use Rattle.mps_embed.proofs.filling.put_entry.Goals as goal

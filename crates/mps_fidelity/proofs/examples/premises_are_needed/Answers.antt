@@ -1,3 +1,4 @@
+-- Proves the law `premises_are_needed`, clauses `types_have_to_fit`, `sorts_have_to_agree`, `no_type_without_comparing`, `branches_have_to_agree` and `one_has_to_receive_first`.
 use Rattle.std.proofs.Common.{◌≡◌, inl, inr, true, false, refl}
 use Rattle.std.specs.Prelude.{pos}
 use Rattle.mps_base.specs.declared.action.Message.TheVariants.{Value as Plain}

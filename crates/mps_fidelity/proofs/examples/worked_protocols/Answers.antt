@@ -1,3 +1,4 @@
+-- Proves the law `worked_protocols`, clauses `relay`, `loop_in_a_loop`, `choice_in_a_loop`, `idle_loop`, `another_answer_is_given`, `rounds_go_on` and 1 more.
 use Rattle.std.proofs.Common.{◌≡◌, ℕ, zero, suc, ◌<◌, List, length, refl, arith}
 use Rattle.std.specs.Prelude.{slice_get}
 use Rattle.mps_global.specs.Global.{GlobalType}

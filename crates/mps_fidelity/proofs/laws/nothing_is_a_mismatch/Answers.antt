@@ -1,3 +1,4 @@
+-- Proves the law `nothing_is_a_mismatch`, clauses `violation`, `served` and `always`, by the lemmas of Faithful and Refusals.
 use Rattle.mps_fidelity.proofs.Faithful.{faithful}
 use Rattle.mps_fidelity.proofs.Refusals.{no_mismatch, sound_other, always_other}
 use Rattle.mps_fidelity.proofs.laws.nothing_is_a_mismatch.Goals as goal

@@ -1,3 +1,4 @@
+-- Proves the law `queues_are_half_duplex`, clauses `replayed`, `sound` and `always`, by the lemmas of Faithful.
 use Rattle.mps_fidelity.proofs.Faithful.{half_duplex, sound_half_duplex, always_half_duplex}
 use Rattle.mps_fidelity.proofs.laws.queues_are_half_duplex.Goals as goal
 

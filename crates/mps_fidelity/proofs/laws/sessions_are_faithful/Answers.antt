@@ -1,3 +1,4 @@
+-- Proves the law `sessions_are_faithful`, clauses `replayed`, `sound` and `always`, by the lemmas of Faithful.
 use Rattle.mps_fidelity.proofs.Faithful.{faithful, sound_faithful, always_faithful}
 use Rattle.mps_fidelity.proofs.laws.sessions_are_faithful.Goals as goal
 

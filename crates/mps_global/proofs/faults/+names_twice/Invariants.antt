@@ -1,3 +1,4 @@
+-- `names_twice` ends: at each call it has fewer names.
 use Rattle.std.proofs.Common.{length}
 use Rattle.mps_global.proofs.faults.+names_twice.Given as goal
 

@@ -1,3 +1,4 @@
+-- `node_fault` meets its contract.
 use Rattle.mps_global.proofs.faults.node_fault.Goals as goal
 
 pub returns-in-Rec : goal.returns-in-Rec

@@ -1,3 +1,4 @@
+-- Proves the law `protocol_laws`, clauses `roles` and `limits`, by the lemmas of Sound.
 use Rattle.mps_global.proofs.Sound.{sound_protocol}
 use Rattle.mps_global.proofs.faults.protocol_laws.Goals as goal
 

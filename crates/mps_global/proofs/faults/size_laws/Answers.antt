@@ -1,3 +1,4 @@
+-- Proves the law `size_laws`, clauses `nodes` and `levels`, by the lemmas of Sizes.
 use Rattle.std.proofs.Common.{[], arith}
 use Rattle.mps_global.proofs.Sizes.{as_many, as_deep}
 use Rattle.mps_global.proofs.faults.size_laws.Goals as goal

@@ -1,3 +1,4 @@
+-- `converse_joined` meets its clauses `cell`, `opening` and `told`, by the lemmas of Telling.
 use Rattle.std.proofs.Common.{sym, ◌∙◌}
 use Rattle.mps_wire.specs.Streams.{streams}
 use Rattle.mps_wire.proofs.Making.{ended_keeps}
@@ -6,10 +7,10 @@ use Rattle.mps_hub.proofs.Telling.{idle_whole, unused, idle_stays, ends_told}
 use Rattle.mps_hub.proofs.attending.converse_joined.Goals as goal
 
 pub returns-in-Ok-clause-cell : goal.returns-in-Ok-clause-cell
-returns-in-Ok-clause-cell g c = ended_keeps _ (λ h. h.inner.inner.pass.cell) (λ h x a k t. t.call.pass.cell) (streams g.R.Source g.W.Sink c.args.reader.now c.send.new.writer) (streams g.R.Source g.W.Sink c.converse.new.reader c.converse.new.writer) _ _ c.converse.result c.converse.ensures.ending
+returns-in-Ok-clause-cell g c = ended_keeps _ (λ h. h.inner.pass.cell) (λ h x a k t. t.call.pass.cell) (streams g.R.Source g.W.Sink c.args.reader.now c.send.new.writer) (streams g.R.Source g.W.Sink c.converse.new.reader c.converse.new.writer) _ _ c.converse.result c.converse.ensures.ending
 
 pub returns-in-Ok-clause-opening : goal.returns-in-Ok-clause-opening
-returns-in-Ok-clause-opening g c = ended_keeps _ (λ h. h.inner.inner.pass.opening) (λ h x a k t. t.call.pass.opening) (streams g.R.Source g.W.Sink c.args.reader.now c.send.new.writer) (streams g.R.Source g.W.Sink c.converse.new.reader c.converse.new.writer) _ _ c.converse.result c.converse.ensures.ending
+returns-in-Ok-clause-opening g c = ended_keeps _ (λ h. h.inner.pass.opening) (λ h x a k t. t.call.pass.opening) (streams g.R.Source g.W.Sink c.args.reader.now c.send.new.writer) (streams g.R.Source g.W.Sink c.converse.new.reader c.converse.new.writer) _ _ c.converse.result c.converse.ensures.ending
 
 -- where nothing is recorded nothing is lost
 pub returns-in-Ok-clause-told : goal.returns-in-Ok-clause-told

@@ -1,3 +1,4 @@
+-- `asked_for` meets its clause `none`.
 use Rattle.mps_hub.proofs.first.asked_for.Goals as goal
 
 pub returns-in-Err-Bad-clause-none : goal.returns-in-Err-Bad-clause-none

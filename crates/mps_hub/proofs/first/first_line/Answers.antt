@@ -1,3 +1,4 @@
+-- `first_line` meets its clause `line`, keeps what holds in each turn of its loop, and may call `keep`, by the lemmas of Bytewise.
 use Rattle.std.proofs.Common.{◌∙◌, arith}
 use Rattle.mps_hub.proofs.Bytewise.{last_one, one_more, short_kept}
 use Rattle.mps_hub.proofs.first.first_line.Goals as goal

@@ -1,3 +1,4 @@
+-- In each turn of the loop of `first_line` each read gave one byte of a line that hasn't ended, none failed, and none found the end.
 use Rattle.std.proofs.Common.{◌≡◌, ◌+◌}
 use Rattle.mps_hub.specs.Private.First.{IsBegun}
 use Rattle.mps_hub.proofs.first.first_line.Given as goal

@@ -1,3 +1,4 @@
+-- A call of a pass keeps the opening types, and is a call of the machine, which meets no mismatch.
 use Rattle.std.proofs.Common.{ap}
 use Rattle.mps_cell.specs.Openings.{Opening}
 use Rattle.mps_cell.proofs.Faithful.{call_other}
@@ -9,8 +10,8 @@ returns g c = record {
     same_types = λ h command answer t call. ap (λ (o : Opening). o.types) call.pass.opening;
     other = λ h command answer t own call. call_other h.pass command answer t.pass own call;
   };
-  gated = record {
-    same_types = λ g command answer t call. ap (λ (o : Opening). o.types) call.pass.opening;
-    other = λ g command answer t own call. call_other g.inner.pass command answer t.inner.pass own call;
+  connected = record {
+    same_types = λ g command answer t call. ap (λ (o : Opening). o.types) call.call.pass.opening;
+    other = λ g command answer t own call. call_other g.inner.pass command answer t.inner.pass own call.call;
   };
 }

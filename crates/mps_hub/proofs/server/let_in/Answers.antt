@@ -1,3 +1,4 @@
+-- `let_in` may call `spawn`, by the lemmas of Crossing.
 use denote.Param.Send.{sendable}
 use Rattle.std.proofs.Crossing.{crosses}
 use Rattle.std.proofs.Crossing as heap

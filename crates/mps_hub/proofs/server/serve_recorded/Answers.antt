@@ -1,6 +1,7 @@
+-- `serve_recorded` meets its clause `unrecorded` and may call `scoped`, by the lemmas of Unserved.
 use denote.Param.Send.{sendable}
 use Rattle.std.proofs.Common.{length}
-use Rattle.mps_hub.proofs.Serving.{more_recorded}
+use Rattle.mps_hub.proofs.Unserved.{more_recorded}
 use Rattle.mps_hub.proofs.server.serve_recorded.Goals as goal
 
 -- what the closure needs is what is known of the type parameters
@@ -14,4 +15,4 @@ scoped-accepted-requires g c =
     record { at = λ a. (t.static-R, (t.static-G, (t.static-S, (t.static-D, (search sendable, search sendable, search sendable, search sendable))))) }
 
 pub returns-clause-unrecorded : goal.returns-clause-unrecorded
-returns-clause-unrecorded g c = more_recorded c.args.desk.now.first (length c.args.keepers.now) c.counted.result c.counted.ensures.unrecorded
+returns-clause-unrecorded g c = more_recorded c.args.serving.now.desk.now.first (length c.args.serving.now.keepers.now) c.counted.result c.counted.ensures.unrecorded

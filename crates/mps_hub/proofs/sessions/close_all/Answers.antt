@@ -1,3 +1,4 @@
+-- `close_all` keeps what holds in each turn of its loop, by the lemmas of Cells.
 use Rattle.std.proofs.Common.{◌≡◌, ◌+◌, List, ◌∷◌, [], ◌++◌, Option, length, sym, ap, ◌∙◌, subst, arith, append_assoc, length-append}
 use Rattle.std.specs.Vec.Iter.{into_iter_items}
 use Rattle.mps_room.specs.RoomState.{RoomState}

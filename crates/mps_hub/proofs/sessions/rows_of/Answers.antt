@@ -1,3 +1,4 @@
+-- `rows_of` may call `passes_of` and `row_of`, by the lemmas of Cells.
 use Rattle.std.proofs.Common.{◌≡◌, ◌<◌, List, ◌∷◌, ◌++◌, length, refl, sym, ap, ◌∙◌, subst, arith}
 use Rattle.std.specs.Prelude.{All}
 use Rattle.std.specs.Vec.Iter.{into_iter_items}

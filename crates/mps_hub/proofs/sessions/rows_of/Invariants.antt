@@ -1,3 +1,4 @@
+-- In each turn of the loop of `rows_of` there is a row for each deal so far.
 use Rattle.std.proofs.Common.{◌≡◌, ◌++◌, length, take}
 use Rattle.std.specs.Vec.Iter.{into_iter_items}
 use Rattle.mps_hub.proofs.sessions.rows_of.Given as goal

@@ -1,3 +1,4 @@
+-- `session_of` meets its clause `fault`, by the lemmas of Shutting.
 use Rattle.std.proofs.Common.{List, subst, map}
 use Rattle.std.specs.Prelude.{◌≢◌, IfErr}
 use Rattle.mps_local.specs.Local.{LocalType, plain}
@@ -9,5 +10,5 @@ use Rattle.mps_hub.proofs.sessions.session_of.Goals as goal
 pub returns-clause-fault : goal.returns-clause-fault
 returns-clause-fault c =
     let e = c.open.ensures in
-    subst (λ (types : List LocalType). IfErr c.open.result (λ fault. fault ≢ Memory → KeepsShut types fault)) c.in_ok-copies.ensures
-    (shut (map plain c.in_ok-copies.field-0.items) c.open.result e.count e.peer e.local)
+    subst (λ (types : List LocalType). IfErr c.open.result (λ fault. fault ≢ Memory → KeepsShut types fault)) c.in_ok-copy_all.ensures
+    (shut (map plain c.in_ok-copy_all.field-0.items) c.open.result e.count e.peer e.local)

@@ -1,3 +1,4 @@
+-- In each turn of the loop of `sessions_of` each session so far is a new one of these types.
 use Rattle.std.proofs.Common.{◌≡◌, ◌≤◌, vec_len, vec_capacity}
 use Rattle.std.specs.Prelude.{All, map}
 use Rattle.mps_local.specs.Local.{plain}

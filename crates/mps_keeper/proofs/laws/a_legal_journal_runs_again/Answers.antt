@@ -1,3 +1,4 @@
+-- Proves the law `a_legal_journal_runs_again`, clauses `answer` and `journal`, by the lemmas of Rerunning.
 use Rattle.std.proofs.Common.{◌++◌, ◌∷◌, [], Bool, if◌then◌else◌, ap}
 use Rattle.mps_keeper.proofs.Rerunning.{again, entry_at}
 use Rattle.mps_keeper.proofs.laws.a_legal_journal_runs_again.Goals as goal

@@ -1,3 +1,4 @@
+-- Proves the law `restoring_makes_the_entries`, by the lemmas of Remaking.
 use Rattle.mps_keeper.proofs.Remaking.{remade}
 use Rattle.mps_keeper.proofs.laws.restoring_makes_the_entries.Goals as goal
 

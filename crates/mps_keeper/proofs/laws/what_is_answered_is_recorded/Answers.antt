@@ -1,3 +1,4 @@
+-- Proves the law `what_is_answered_is_recorded`, clauses `whole`, `broken_off` and `told`, by the lemmas of Recording.
 use Rattle.std.proofs.Common.{refl}
 use Rattle.mps_keeper.proofs.Recording.{lines_lead, broken_leads, written_is_recorded, recorded}
 use Rattle.mps_keeper.proofs.laws.what_is_answered_is_recorded.Goals as goal

@@ -1,6 +1,7 @@
+-- `read_all` meets its clauses `bytes` and `end` and keeps what holds in each turn of its loop, by the lemmas of Restoring.
 use Rattle.std.proofs.Common.{arith, ap, Ok}
 use Rattle.mps_wire.proofs.Bytes.{same_space, Consumes-none}
-use Rattle.mps_keeper.specs.declared.restore.TheConstants.{BLOCK}
+use Rattle.mps_keeper.specs.declared.restore.TheConstants.{JOURNAL_BLOCK}
 use Rattle.mps_keeper.proofs.Restoring.{reads_on}
 use Rattle.mps_keeper.proofs.restore.read_all.Goals as goal
 
@@ -13,7 +14,7 @@ loop-init g c = record {
 
 pub loop-preserved : goal.loop-preserved
 loop-preserved g c = record {
-  space = same_space c.loop.block.len BLOCK c.read_once.new.block c.loop.block.items c.loop.block.ok.0 c.loop.invariant.space;
+  space = same_space c.loop.block.len JOURNAL_BLOCK c.read_once.new.block c.loop.block.items c.loop.block.ok.0 c.loop.invariant.space;
   reads = omega (arith, c.in_ok-read_once.ensures.reads, c.loop.invariant.reads);
   read = reads_on _ _ _ _ _ c.loop.invariant.read c.in_ok-read_once.ensures.more;
 }

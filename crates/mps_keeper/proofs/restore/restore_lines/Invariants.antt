@@ -1,3 +1,4 @@
+-- In each turn of the loop of `restore_lines` the lines before the rest were called by the callers of their roles, and accepted.
 use Rattle.std.proofs.Common.{◌≡◌, length}
 use Rattle.mps_keeper.proofs.Restoring.{Restoring}
 use Rattle.mps_keeper.proofs.restore.restore_lines.Given as goal

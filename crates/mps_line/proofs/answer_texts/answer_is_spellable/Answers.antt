@@ -1,3 +1,4 @@
+-- `answer_is_spellable` meets its contract, by the lemmas of Spellings.
 use Rattle.mps_line.proofs.Spellings.{word, number, numbers}
 use Rattle.mps_line.proofs.answer_texts.answer_is_spellable.Goals as goal
 

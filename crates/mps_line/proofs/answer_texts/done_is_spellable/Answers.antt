@@ -1,3 +1,4 @@
+-- `done_is_spellable` meets its contract, by the lemmas of Spellings.
 use Rattle.std.proofs.Common.{subst, sym, arith}
 use Rattle.std.specs.Prelude.{Option}
 use Rattle.mps_base.specs.declared.action.Message.{Message}

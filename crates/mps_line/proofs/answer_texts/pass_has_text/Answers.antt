@@ -1,3 +1,4 @@
+-- `pass_has_text` meets its clause `text`, by the lemmas of Spellings.
 use Rattle.std.proofs.Common.{arith}
 use Rattle.mps_line.proofs.Spellings.{line, word, number, called}
 use Rattle.mps_line.proofs.answer_texts.pass_has_text.Goals as goal

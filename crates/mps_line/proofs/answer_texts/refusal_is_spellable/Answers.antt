@@ -1,3 +1,4 @@
+-- `refusal_is_spellable` meets its contract, by the lemmas of Spellings.
 use Rattle.std.proofs.Common.{arith}
 use Rattle.mps_line.proofs.Spellings.{word, number}
 use Rattle.mps_line.proofs.answer_texts.refusal_is_spellable.Goals as goal

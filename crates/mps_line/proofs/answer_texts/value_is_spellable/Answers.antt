@@ -1,3 +1,4 @@
+-- `value_is_spellable` meets its contract, by the lemmas of Spellings.
 use Rattle.std.proofs.Common.{subst, sym}
 use Rattle.mps_base.specs.declared.value.Value.{Value}
 use Rattle.mps_line.specs.Private.Spellable.{IsSpellable}

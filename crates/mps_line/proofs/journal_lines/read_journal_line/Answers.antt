@@ -1,3 +1,4 @@
+-- `read_journal_line` meets its clause `bad`, by the lemmas of JournalLines.
 use Rattle.std.proofs.Common.{sym, ap, ◌∙◌, Err}
 use Rattle.std.proofs.lemmas.Bool.{false≢true}
 use Rattle.mps_line.proofs.JournalLines.{no_such_role, none_after, asks_as_well}

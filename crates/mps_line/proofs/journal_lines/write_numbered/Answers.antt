@@ -1,3 +1,4 @@
+-- `write_numbered` meets its clause `ok`, by the lemmas of JournalLines.
 use Rattle.mps_line.proofs.JournalLines.{numbered_written}
 use Rattle.mps_line.proofs.journal_lines.write_numbered.Goals as goal
 

@@ -1,3 +1,4 @@
+-- `write_parts` meets its clauses `ok` and `err`, by the lemmas of JournalLines and Writing.
 use Rattle.mps_line.proofs.JournalLines.{role_written}
 use Rattle.mps_line.proofs.Writing.{still_in_front}
 use Rattle.mps_line.proofs.journal_lines.write_parts.Goals as goal

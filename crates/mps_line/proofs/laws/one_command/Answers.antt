@@ -1,3 +1,4 @@
+-- `one_command` meets its clauses `command`, `spelling`, `known` and `shown`, by the lemmas of ShownLines and OneSpelling.
 use Rattle.mps_line.specs.Commands.{command_tokens}
 use Rattle.mps_line.proofs.ShownLines.{shown_command}
 use Rattle.mps_line.proofs.OneSpelling.{same_command, line_spelling, names_roles}

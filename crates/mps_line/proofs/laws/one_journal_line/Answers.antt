@@ -1,3 +1,4 @@
+-- `one_journal_line` meets its clauses `role`, `number`, `command`, `spelling`, `no_line_feed` and `script`, by the lemmas of JournalLines.
 use Rattle.mps_line.proofs.JournalLines.{same_role, same_number, same_command, one_spelling_of, no_line_feed, script_line}
 use Rattle.mps_line.proofs.laws.one_journal_line.Goals as goal
 

@@ -1,3 +1,4 @@
+-- `one_numbered` meets its clauses `number`, `command`, `spelling`, `known` and `shown`, by the lemmas of NumberedLines and ShownLines.
 use Rattle.mps_line.proofs.NumberedLines.{same_number, same_numbered, numbered_spelling, numbered_names_roles}
 use Rattle.mps_line.proofs.ShownLines.{shown_numbered}
 use Rattle.mps_line.proofs.laws.one_numbered.Goals as goal

@@ -1,8 +1,9 @@
+-- `one_reply_line` meets its clauses `spelling`, `shown`, `no_line_feed`, `reply` and `some`, by the lemmas of OneSpelling, ShownLines and OneReply.
 use Rattle.std.specs.Prelude.{[]}
 use Rattle.mps_line.specs.Replies.{reply_tokens}
 use Rattle.mps_line.proofs.OneSpelling.{line_spelling}
 use Rattle.mps_line.proofs.ShownLines.{shown_reply, some_reply, no_line_feed}
-use Rattle.mps_line.proofs.OneReply.{one_reply}
+use Rattle.mps_line.proofs.OneReply.{one_reply, told_by_letter}
 use Rattle.mps_line.proofs.laws.one_reply_line.Goals as goal
 
 pub returns-clause-spelling : goal.returns-clause-spelling
@@ -19,3 +20,6 @@ returns-clause-reply c = one_reply c.one_spelling.ensures.value c.one_spelling.e
 
 pub returns-clause-some : goal.returns-clause-some
 returns-clause-some c = some_reply
+
+pub returns-clause-refusal : goal.returns-clause-refusal
+returns-clause-refusal c = told_by_letter

@@ -1,3 +1,4 @@
+-- `one_script_line` meets its clauses `role`, `command`, `spelling` and `shown`, by the lemmas of OneSpelling and ShownLines.
 use Rattle.std.specs.Prelude.{◌∷◌}
 use Rattle.mps_line.specs.Tokens.{RoleAt}
 use Rattle.mps_line.specs.Commands.{command_tokens}

@@ -1,3 +1,4 @@
+-- `after_word` meets its clauses `none` and `read`, by the lemmas of Splitting.
 use Rattle.std.proofs.Common.{◌≢◌, List, ℕ, ◌∷◌, ◌++◌, ap, ◌∙◌}
 use Rattle.mps_line.proofs.Splitting.{if_none, in_front, not_in_front}
 use Rattle.mps_line.proofs.line_parts.after_word.Goals as goal

@@ -1,3 +1,4 @@
+-- `split_at_space` meets its clause `none`, by the lemmas of Splitting.
 use Rattle.mps_line.proofs.Splitting.{if_none, never_spaced}
 use Rattle.mps_line.proofs.line_parts.split_at_space.Goals as goal
 

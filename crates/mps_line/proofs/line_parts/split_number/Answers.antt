@@ -1,3 +1,4 @@
+-- `split_number` meets its clause `none`, by the lemmas of Splitting and NumberedLines.
 use Rattle.mps_line.proofs.Splitting.{if_none}
 use Rattle.mps_line.proofs.NumberedLines.{no_number}
 use Rattle.mps_line.proofs.line_parts.split_number.Goals as goal

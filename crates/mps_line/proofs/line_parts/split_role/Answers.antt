@@ -1,3 +1,4 @@
+-- `split_role` meets its clauses `none` and `rest`, by the lemmas of Splitting.
 use Rattle.mps_line.proofs.Splitting.{if_none, same_rest, no_role}
 use Rattle.mps_line.proofs.line_parts.split_role.Goals as goal
 

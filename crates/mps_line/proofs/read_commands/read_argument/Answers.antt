@@ -1,3 +1,4 @@
+-- `read_argument` meets its clauses `none` and `read`, by the lemmas of Splitting and CommandLines.
 use Rattle.std.proofs.Common.{◌∙◌, refl}
 use Rattle.std.proofs.lemmas.Bool.{false≢true}
 use Rattle.mps_line.proofs.Splitting.{line_of_one}

@@ -1,3 +1,4 @@
+-- `read_arguments` meets its clause `bad`, by the lemmas of CommandLines.
 use Rattle.std.proofs.Common.{sym, ap, ◌∙◌, Err}
 use Rattle.mps_line.proofs.CommandLines.{no_sending, no_choosing, no_receiving}
 use Rattle.mps_line.proofs.read_commands.read_arguments.Goals as goal

@@ -1,3 +1,4 @@
+-- `read_command` meets its clauses `read`, `bad` and `memory`, by the lemmas of CommandLines.
 use Rattle.std.proofs.Common.{arith}
 use Rattle.mps_base.specs.declared.value.Value.TheVariants.{Text}
 use Rattle.mps_command.specs.declared.command.Command.TheVariants.{Forward}

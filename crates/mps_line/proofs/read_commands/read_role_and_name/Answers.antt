@@ -1,3 +1,4 @@
+-- `read_role_and_name` meets its clauses `bad` and `read`, by the lemmas of CommandLines.
 use Rattle.std.proofs.Common.{refl}
 use Rattle.std.proofs.lemmas.Bool.{false≢true}
 use Rattle.mps_line.proofs.CommandLines.{role_in_front, none_of_names, no_role_in_front, name_read}

@@ -1,3 +1,4 @@
+-- `read_role_and_value` meets its clauses `bad` and `memory`, by the lemmas of CommandLines.
 use Rattle.mps_line.proofs.CommandLines.{role_in_front, none_of_these, no_role_in_front}
 use Rattle.mps_line.proofs.read_commands.read_role_and_value.Goals as goal
 

@@ -1,3 +1,4 @@
+-- `read_script_line` meets its clauses `bad`, `memory` and `read`, by the lemmas of Splitting and CommandLines.
 use Rattle.std.proofs.Common.{sym, ap, Err}
 use Rattle.mps_line.proofs.Splitting.{joined}
 use Rattle.mps_line.proofs.CommandLines.{none_after, no_role_in_front}

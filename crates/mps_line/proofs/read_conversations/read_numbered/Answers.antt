@@ -1,3 +1,4 @@
+-- `read_numbered` meets its clauses `bad`, `memory` and `read`, by the lemmas of NumberedLines.
 use Rattle.std.proofs.Common.{refl, sym, ap, ◌∙◌, Err, Some}
 use Rattle.std.proofs.lemmas.Bool.{false≢true}
 use Rattle.mps_base.specs.declared.value.Value.TheVariants.{Text}

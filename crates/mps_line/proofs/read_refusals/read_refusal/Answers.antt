@@ -1,3 +1,4 @@
+-- `read_refusal` meets its clauses `none` and `read`, by the lemmas of ReplyLines.
 use Rattle.std.proofs.Common.{rules}
 use Rattle.std.specs.Prelude.{codes}
 use Rattle.mps_line.proofs.ReplyLines.{no_step_after, no_refusal, lone_read, violation_read}

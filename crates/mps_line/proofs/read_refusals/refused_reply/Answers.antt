@@ -1,3 +1,4 @@
+-- `refused_reply` meets its clauses `refusal`, `line`, `session`, `role`, `pass`, `number` and 1 more, by the lemmas of ReplyLines.
 use Rattle.std.proofs.Common.{rules, arith}
 use Rattle.std.specs.Prelude.{[], ◌∷◌, codes}
 use Rattle.mps_line.specs.Replies.{refusal_tokens}

@@ -1,3 +1,4 @@
+-- `are_steps` meets its clauses `no` and `yes` and keeps what holds in each turn of its loop, by the lemmas of ReplyLines.
 use Rattle.std.proofs.Common.{◌≡◌, ◌∙◌, refl, ap, sym, not, true, false}
 use Rattle.std.proofs.lemmas.Bool.{false≢true}
 use Rattle.std.specs.Prelude.{Option, Some, None, IfSome, IfNone, is_some}

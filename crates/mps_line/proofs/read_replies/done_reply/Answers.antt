@@ -1,3 +1,4 @@
+-- `done_reply` meets its clauses `bad`, `read` and `memory`, by the lemmas of ReplyLines.
 use Rattle.std.proofs.Common.{rules, sym, ap, Err}
 use Rattle.std.specs.Prelude.{codes}
 use Rattle.mps_command.specs.declared.answer.Answer.TheVariants.{Done as Accepted}

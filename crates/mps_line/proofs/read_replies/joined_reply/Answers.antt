@@ -1,3 +1,4 @@
+-- `joined_reply` meets its clauses `bad` and `read`, by the lemmas of ReplyLines.
 use Rattle.std.proofs.Common.{rules, arith}
 use Rattle.std.specs.Prelude.{[], ◌∷◌, codes}
 use Rattle.mps_line.specs.Tokens.{Number, Called}

@@ -1,3 +1,4 @@
+-- `news_reply` meets its clauses `bad`, `read` and `memory`, by the lemmas of ReplyLines.
 use Rattle.std.specs.Prelude.{◌≡◌, [], ◌∷◌, map, codes}
 use Rattle.std.proofs.Common.{arith, rules, sym, ap, Err}
 use Rattle.mps_command.specs.declared.answer.Answer.TheVariants.{News}

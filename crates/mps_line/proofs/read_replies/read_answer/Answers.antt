@@ -1,3 +1,4 @@
+-- `read_answer` meets its clause `bad`, by the lemmas of ReplyLines.
 use Rattle.std.proofs.Common.{◌≡◌, ◌<◌, length, arith, rules, get_or}
 use Rattle.std.proofs.lemmas.Grind.{common_steps}
 use Rattle.mps_line.proofs.ReplyLines.{no_other_done, no_other_undone, no_other_news, no_other_shown, no_other_joined, no_other_refused, no_reply, no_reply_of_none}

@@ -1,3 +1,4 @@
+-- `read_done` meets its clauses `read`, `bad` and `memory`, by the lemmas of Splitting and ReplyLines.
 use Rattle.std.proofs.Common.{sym, ap, Err, Some}
 use Rattle.std.specs.Prelude.{[]}
 use Rattle.mps_line.specs.Replies.{message_token}

@@ -1,3 +1,4 @@
+-- `read_message` meets its clause `memory`.
 use Rattle.std.proofs.Common.{◌∙◌, ap, Err}
 use Rattle.mps_base.specs.declared.action.Message.TheVariants.{Value as Plain}
 use Rattle.mps_base.specs.declared.value.Value.TheVariants as values

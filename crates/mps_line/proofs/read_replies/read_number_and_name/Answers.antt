@@ -1,3 +1,4 @@
+-- `read_number_and_name` meets its clauses `none` and `read`, by the lemmas of Splitting, CommandLines and ReplyLines.
 use Rattle.std.proofs.Common.{ℕ, List, refl}
 use Rattle.std.proofs.lemmas.Bool.{false≢true}
 use Rattle.std.specs.Prelude.{[], ◌∷◌}

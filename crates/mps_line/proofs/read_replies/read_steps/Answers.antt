@@ -1,3 +1,4 @@
+-- `read_steps` meets its clauses `bad` and `read` and keeps what holds in each turn of its loop, by the lemmas of ReplyLines.
 use Rattle.mps_line.proofs.ReplyLines.{reads_none, reads_more, reads_last, no_next_step, no_last_step, shorter}
 use Rattle.mps_line.proofs.read_replies.read_steps.Goals as goal
 

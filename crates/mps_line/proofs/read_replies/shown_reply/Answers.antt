@@ -1,3 +1,4 @@
+-- `shown_reply` meets its clauses `bad`, `read` and `memory`, by the lemmas of Splitting and ReplyLines.
 use Rattle.std.proofs.Common.{◌∙◌, sym, refl}
 use Rattle.std.proofs.lemmas.Bool.{false≢true}
 use Rattle.std.specs.Prelude.{[]}

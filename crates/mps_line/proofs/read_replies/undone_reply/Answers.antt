@@ -1,3 +1,4 @@
+-- `undone_reply` meets its clauses `read`, `bad` and `memory`, by the lemmas of Splitting and ReplyLines.
 use Rattle.std.specs.Prelude.{◌≡◌, []}
 use Rattle.mps_command.specs.declared.answer.Answer.TheVariants.{Undone}
 use Rattle.mps_line.specs.declared.write_replies.Reply.TheVariants.{Answer as Answered}

@@ -1,3 +1,4 @@
+-- `write_arguments` meets its clause `ok`, by the lemmas of Writing.
 use Rattle.mps_line.specs.Tokens.{Called, Number}
 use Rattle.mps_line.proofs.Writing.{token_alone}
 use Rattle.mps_line.proofs.write_commands.write_arguments.Goals as goal

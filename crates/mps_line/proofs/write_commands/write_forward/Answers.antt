@@ -1,3 +1,4 @@
+-- `write_forward` meets its clause `ok` and may call `write_role`, by the lemmas of Writing.
 use Rattle.std.specs.Prelude.{[], refl}
 use Rattle.mps_line.specs.Tokens.{RoleAt, Called, Worth}
 use Rattle.mps_line.proofs.Writing.{token_written, token_alone}

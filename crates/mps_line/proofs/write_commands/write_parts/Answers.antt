@@ -1,3 +1,4 @@
+-- `write_parts` meets its clauses `ok` and `err`, by the lemmas of CommandLines and Writing.
 use Rattle.std.proofs.Common.{ℕ, List, sym, ap, ◌∙◌, ◌++◌}
 use Rattle.std.proofs.lemmas.Bool.{false≢true}
 use Rattle.mps_line.specs.Commands.{verb_word, verb_of, arguments}

@@ -1,3 +1,4 @@
+-- `append_answer` meets its clause `ok`, by the lemmas of Writing.
 use Rattle.mps_line.proofs.Writing.{done_before, show_written}
 use Rattle.mps_line.proofs.write_replies.append_answer.Goals as goal
 

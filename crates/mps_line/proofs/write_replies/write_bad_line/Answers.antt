@@ -1,3 +1,4 @@
+-- `write_bad_line` meets its clause `ok`, by the lemmas of Writing.
 use Rattle.std.specs.Prelude.{codes}
 use Rattle.mps_base.proofs.Numbers.{appends_ok}
 use Rattle.mps_line.proofs.Writing.{bad_line}

@@ -1,3 +1,4 @@
+-- `write_done` meets its clauses `ok` and `err`, by the lemmas of Splitting and Writing.
 use Rattle.std.specs.Prelude.{[]}
 use Rattle.mps_line.specs.Tokens.{Number}
 use Rattle.mps_line.proofs.Splitting.{line_of_one}

@@ -1,3 +1,4 @@
+-- `write_ids` meets its clause `ok` and keeps what holds in each turn of its loop, by the lemmas of Writing.
 use Rattle.std.proofs.Common.{arith, [], sym, append-nil}
 use Rattle.std.proofs.lemmas.List.{take_all}
 use Rattle.mps_line.proofs.Writing.{none_written, number_written, text_written}

@@ -1,3 +1,4 @@
+-- `write_joined` meets its clause `ok`, by the lemmas of Writing.
 use Rattle.std.proofs.Common.{arith}
 use Rattle.std.specs.Prelude.{[], ◌∷◌, codes}
 use Rattle.mps_line.specs.Tokens.{Number, Called}

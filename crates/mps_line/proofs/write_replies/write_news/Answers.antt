@@ -1,3 +1,4 @@
+-- `write_news` meets its clause `ok`, by the lemmas of Writing.
 use Rattle.std.specs.Prelude.{[], ◌∷◌, codes}
 use Rattle.mps_line.specs.Tokens.{Word, Number}
 use Rattle.mps_line.proofs.Writing.{news_before, numbers_after}

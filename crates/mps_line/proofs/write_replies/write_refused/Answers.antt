@@ -1,3 +1,4 @@
+-- `write_refused` meets its clause `ok`, by the lemmas of Writing.
 use Rattle.std.specs.Prelude.{codes}
 use Rattle.mps_base.proofs.Numbers.{appends_ok}
 use Rattle.mps_line.proofs.Writing.{no_step, not_yours, step_before, no_mark, full, memory}

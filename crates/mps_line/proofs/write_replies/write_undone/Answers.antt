@@ -1,3 +1,4 @@
+-- `write_undone` meets its clause `ok`, by the lemmas of Splitting and Writing.
 use Rattle.std.proofs.Common.{refl}
 use Rattle.std.specs.Prelude.{[], codes}
 use Rattle.mps_line.specs.Tokens.{Word}

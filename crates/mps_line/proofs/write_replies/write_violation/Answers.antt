@@ -1,3 +1,4 @@
+-- `write_violation` meets its clause `ok`, by the lemmas of Writing.
 use Rattle.std.specs.Prelude.{codes}
 use Rattle.mps_base.proofs.Numbers.{appends_ok}
 use Rattle.mps_command.specs.declared.answer.Violation.TheVariants.{Ended, WrongAct, WrongPeer, WrongSort, NoLabel, NothingQueued, Mismatch}

@@ -1,3 +1,4 @@
+-- Proves the law `one_split`, clauses `split` and `only`, by the lemmas of Cutting.
 use Rattle.mps_lines.proofs.Cutting.{cut_splits, cut_is}
 use Rattle.mps_lines.proofs.laws.one_split.Goals as goal
 

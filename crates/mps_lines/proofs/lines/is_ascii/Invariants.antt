@@ -1,3 +1,4 @@
+-- In each turn of the loop of `is_ascii` the largest byte so far tells of these, and the others are still to be looked at.
 use Rattle.std.proofs.Common.{◌≡◌, drop}
 use Rattle.std.specs.Prelude.{◌&&◌, nat_lt}
 use Rattle.std.specs.Char.{is_ascii}

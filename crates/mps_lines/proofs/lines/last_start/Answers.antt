@@ -1,3 +1,4 @@
+-- `last_start` meets its clause `rest`, by the lemmas of Cutting.
 use Rattle.std.proofs.Common.{arith, length-drop}
 use Rattle.std.proofs.lemmas.Bool.{eqb-true}
 use Rattle.std.proofs.lemmas.List.{get_or-drop}

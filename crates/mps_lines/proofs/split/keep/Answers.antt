@@ -1,3 +1,4 @@
+-- `keep` meets its clause `ok`, by the lemmas of Splitting.
 use Rattle.std.proofs.Common.{arith}
 use Rattle.mps_lines.proofs.Splitting.{front_fits, on_ok_items}
 use Rattle.mps_lines.proofs.split.keep.Goals as goal

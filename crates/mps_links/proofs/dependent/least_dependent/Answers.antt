@@ -1,3 +1,4 @@
+-- `least_dependent` meets its clauses `least` and `free` and may call `with_number`.
 use Rattle.std.proofs.Common.{arith, ◌≡◌, ℕ, append_assoc, Some, None, sym, ap, ◌∙◌, subst}
 use Rattle.std.specs.Prelude.{◌==◌, IsSome}
 use Rattle.std.specs.List.{find}

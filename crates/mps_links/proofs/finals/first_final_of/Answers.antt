@@ -1,3 +1,4 @@
+-- `first_final_of` meets its contract, keeps what holds in each turn of its loop, and may call `marked`, by the lemmas of Commits.
 use Rattle.std.proofs.Common.{arith, ◌≡◌, Some, sym, ◌∙◌, subst}
 use Rattle.std.specs.Prelude.{IsSome}
 use Rattle.std.specs.Option.{option_map}

@@ -1,3 +1,4 @@
+-- In each turn of the loop of `first_final_of` the commit that was found is the role's first marked one, of those from the last step back to here.
 use Rattle.std.proofs.Common.{◌≡◌, length}
 use Rattle.mps_links.proofs.Commits.{IsSearch}
 use Rattle.mps_links.proofs.finals.first_final_of.Given as goal

@@ -1,3 +1,4 @@
+-- `least_final` meets its contract, keeps what holds in each turn of its loop, and may call `with_number`, by the lemmas of StepKeys and Commits.
 use Rattle.std.proofs.Common.{◌≡◌, ℕ, ◌==◌, ◌&&◌, nat_lt, None, sym, ap, ◌∙◌, subst, arith}
 use Rattle.std.specs.Option.{option_map}
 use Rattle.std.proofs.lemmas.Bool.{and_left, le-ltb}

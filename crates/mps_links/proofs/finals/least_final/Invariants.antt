@@ -1,3 +1,4 @@
+-- In each turn of the loop of `least_final` the key is that of the least marked commit of the roles so far.
 use Rattle.std.proofs.Common.{◌≡◌, ◌&&◌, nat_lt}
 use Rattle.mps_arena.specs.Keys.{first_key}
 use Rattle.mps_arena.specs.KeyedSteps.{keys_of}

@@ -1,3 +1,4 @@
+-- Proves the law `marked_steps_go`, clauses `stay`, `fewer`, `last`, `left`, `unmarked`, `count` and 2 more, by the lemmas of Lasts and Going.
 use Rattle.mps_links.specs.Marks.{marked_keys}
 use Rattle.mps_links.proofs.Lasts.{nothing_last}
 use Rattle.mps_links.proofs.Going.{unmarked_stay, one_fewer, last_marked, none_go, unmarked_left, marked_within, marked_count, marked_commits_are}

@@ -1,3 +1,4 @@
+-- `mark_from` meets its clauses `marks`, `count` and `closed`, keeps what holds in each turn of its loop, and may call `unwrap` and `follow`.
 use Rattle.std.proofs.Common.{◌≡◌, ℕ, Bool, true, List, Option, ◌∷◌, ◌++◌, length, length-append, map, replicate, Some, None, sym, ap, ◌∙◌, subst, arith}
 use Rattle.std.specs.Prelude.{IsSome}
 use Rattle.mps_history.specs.Steps.{within}

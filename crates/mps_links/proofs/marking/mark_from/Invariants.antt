@@ -1,3 +1,4 @@
+-- In each turn of the loop of `mark_from` of the step and what depends on it those before the pending keys are marked and counted.
 use Rattle.std.proofs.Common.{◌≡◌, length}
 use Rattle.mps_history.specs.Dependence.{consequences}
 use Rattle.mps_arena.specs.KeyedSteps.{steps}

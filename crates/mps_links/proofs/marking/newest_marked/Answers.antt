@@ -1,3 +1,4 @@
+-- `newest_marked` meets its clauses `newest`, `free` and `none` and keeps what holds in each turn of its loop.
 use Rattle.std.proofs.Common.{◌≡◌, ℕ, ◌==◌, ◌&&◌, nat_lt, None, sym, ap, ◌∙◌, subst, arith}
 use Rattle.std.proofs.lemmas.Bool.{and_left, le-ltb}
 use Rattle.mps_arena.specs.Keys.{last_key}

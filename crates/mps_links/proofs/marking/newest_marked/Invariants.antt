@@ -1,3 +1,4 @@
+-- In each turn of the loop of `newest_marked` the key is that of the newest marked step of the roles so far.
 use Rattle.std.proofs.Common.{◌≡◌, ◌&&◌, None, nat_lt}
 use Rattle.mps_arena.specs.Keys.{last_key}
 use Rattle.mps_arena.specs.KeyedSteps.{keys_of}

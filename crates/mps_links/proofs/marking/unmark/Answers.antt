@@ -1,3 +1,4 @@
+-- `unmark` meets its clauses `keyed_steps` and `none`, keeps what holds in each turn of its loop, and may call `unmark_role`, by the lemmas of Going and Unmarking.
 use Rattle.std.proofs.Common.{◌≡◌, ℕ, map, refl, sym, ap, ◌∙◌, arith}
 use Rattle.mps_links.specs.Marks.{marked_keys}
 use Rattle.mps_links.specs.Private.RoleMarks.{unmarked_of}

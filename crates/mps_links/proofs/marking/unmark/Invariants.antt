@@ -1,3 +1,4 @@
+-- In each turn of the loop of `unmark` no step of the roles so far has a mark, and nothing else has changed.
 use Rattle.std.proofs.Common.{◌≡◌, map}
 use Rattle.mps_links.proofs.Unmarking.{unmarked_below}
 use Rattle.mps_links.proofs.marking.unmark.Given as goal

@@ -1,3 +1,4 @@
+-- `unmark_role` meets its clause `keyed_steps`, keeps what holds in each turn of its loop, and may call `marked`, by the lemmas of Unmarking.
 use Rattle.std.proofs.Common.{◌≡◌, false, Some, sym, ap, ◌∙◌, subst, arith}
 use Rattle.std.specs.Prelude.{IsSome}
 use Rattle.std.specs.Option.{option_map}

@@ -1,3 +1,4 @@
+-- In each turn of the loop of `unmark_role` the role's steps behind the place of the walk have no mark, and nothing else has changed.
 use Rattle.std.proofs.Common.{◌≡◌, length}
 use Rattle.mps_links.proofs.Unmarking.{IsWalk}
 use Rattle.mps_links.proofs.marking.unmark_role.Given as goal

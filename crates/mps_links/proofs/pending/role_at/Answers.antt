@@ -1,3 +1,4 @@
+-- `role_at` meets its clause `small`, by the lemmas of Present.
 use Rattle.std.proofs.Common.{◌≡◌, ◌<◌, ℕ, Some, sym, ap, ◌∙◌, subst}
 use Rattle.std.specs.Option.{option_map}
 use Rattle.mps_base.specs.declared.action.Step.{Step}

@@ -1,3 +1,4 @@
+-- The loop of `Local::drop` ends: what is left of the type weighs less at each turn.
 use Rattle.std.proofs.Common.{◌+◌}
 use Rattle.mps_local.specs.Private.Weights.{weight, waiting_weight}
 use Rattle.mps_local.proofs.Local.drop.Given as goal

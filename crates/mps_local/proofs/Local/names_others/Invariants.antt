@@ -1,3 +1,4 @@
+-- In each turn of the loop of `Local::names_others` the type names other roles alone where its part that is looked at and the branches that wait do.
 use Rattle.std.proofs.Common.{◌+◌, ◌↔◌}
 use Rattle.mps_local.specs.Local.{plain, plain_branches}
 use Rattle.mps_local.specs.Shape.{AllPeers, AllBranchPeers, IsOtherRole}

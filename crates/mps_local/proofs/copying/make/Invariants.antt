@@ -1,3 +1,4 @@
+-- In each turn of the loop of `make` when what waits is made, it is the copy.
 use Rattle.std.proofs.Common.{◌≡◌}
 use Rattle.mps_local.specs.Private.Copying.{stacks, nothing_made, with_next, with_all, left_weight}
 use Rattle.mps_local.proofs.copying.make.Given as goal

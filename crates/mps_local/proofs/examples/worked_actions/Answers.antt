@@ -1,3 +1,4 @@
+-- Proves the law `worked_actions`, clauses `end`, `output`, `one_loop`, `loop_in_a_loop`, `loop_of_the_same_name`, `choice` and 4 more.
 use Rattle.std.proofs.Common.{refl}
 use Rattle.mps_local.specs.Unfolding.{unfolded}
 use Rattle.mps_local.proofs.examples.worked_actions.Goals as goal

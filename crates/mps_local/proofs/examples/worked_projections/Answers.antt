@@ -1,3 +1,4 @@
+-- Proves the law `worked_projections`, clauses `relay_of_a`, `relay_of_b`, `relay_of_c`, `loops_of_a`, `loops_of_b`, `loops_of_c` and 13 more.
 use Rattle.std.proofs.Common.{refl}
 use Rattle.mps_local.proofs.examples.worked_projections.Goals as goal
 

@@ -1,3 +1,4 @@
+-- Proves the law `local_fault_laws`, clauses `closed`, `guarded`, `unshadowed`, `labelled`, `limits`, `no_other` and 1 more, by the lemmas of Faultless and Told.
 use Rattle.mps_local.proofs.Faultless.{fine_so, limits_so, faultless_so}
 use Rattle.mps_local.proofs.Told.{no_memory}
 use Rattle.mps_local.proofs.faults.local_fault_laws.Goals as goal

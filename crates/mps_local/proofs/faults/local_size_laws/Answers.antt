@@ -1,3 +1,4 @@
+-- Proves the law `local_size_laws`, clauses `nodes` and `levels`, by the lemmas of Sizes.
 use Rattle.std.proofs.Common.{[], arith}
 use Rattle.mps_local.proofs.Sizes.{as_many, as_deep}
 use Rattle.mps_local.proofs.faults.local_size_laws.Goals as goal

@@ -1,3 +1,4 @@
+-- Proves the law `labels_lead`, clauses `paired`, `lead` and `placed`, by the lemmas of Leading.
 use Rattle.mps_local.proofs.Leading.{paired, lead, placed}
 use Rattle.mps_local.proofs.laws.labels_lead.Goals as goal
 

@@ -1,3 +1,4 @@
+-- Proves the law `merging_is_equality`, by the lemmas of Merging.
 use Rattle.mps_local.proofs.Merging.{merged_are, are_merged}
 use Rattle.mps_local.proofs.laws.merging_is_equality.Goals as goal
 

@@ -1,3 +1,4 @@
+-- Proves the law `same_is_equality`, clauses `types` and `branches`, by the lemmas of Equal.
 use Rattle.mps_local.proofs.Equal.{same_is, same_branches_is, same_of_equal, same_of_equal_branches}
 use Rattle.mps_local.proofs.laws.same_is_equality.Goals as goal
 

@@ -1,3 +1,4 @@
+-- Proves the law `unmerged_is_named`, clauses `named` and `none`, by the lemmas of Unmerged.
 use Rattle.mps_local.proofs.Unmerged.{named, none_named}
 use Rattle.mps_local.proofs.laws.unmerged_is_named.Goals as goal
 

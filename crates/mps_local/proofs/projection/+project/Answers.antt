@@ -1,3 +1,4 @@
+-- `project_branches` and `project_tree` meet their clauses `ok` and `fault`, by the lemmas of Examined.
 use Rattle.std.proofs.Common.{sym, subst}
 use Rattle.mps_global.specs.Global.{plain as global_type, plain_branches as global_branches}
 use Rattle.mps_global.specs.declared.Global.{Global}

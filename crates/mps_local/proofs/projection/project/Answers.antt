@@ -1,3 +1,4 @@
+-- `project` meets its clause `peers` and may call `project_tree`, by the lemmas of Choices and Projected.
 use Rattle.std.proofs.Common.{◌≡◌, ℕ, List, Some, subst, arith}
 use Rattle.mps_global.specs.Global.{plain as global_type}
 use Rattle.mps_global.proofs.Sound.{sound_protocol}

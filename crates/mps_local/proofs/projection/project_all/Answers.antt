@@ -1,3 +1,4 @@
+-- `project_all` meets its clause `fault` and keeps what holds in each turn of its loop, by the lemmas of Each.
 use Rattle.std.proofs.Common.{rules, ◌≡◌, ℕ, ◌<◌, ◌∷◌, [], length, Some, ap, subst, arith}
 use Rattle.std.proofs.lemmas.List.{length-append}
 use Rattle.mps_global.specs.Global.{plain as global_type}

@@ -1,3 +1,4 @@
+-- In each turn of the loop of `project_all` each role so far has its projection, in order, and it names roles of the protocol alone.
 use Rattle.std.proofs.Common.{◌≡◌, ◌<◌, ◌≤◌, ℕ, length, map, slice_get}
 use Rattle.std.specs.List.{AllByRecursion}
 use Rattle.mps_global.specs.Global.{plain as global_type}

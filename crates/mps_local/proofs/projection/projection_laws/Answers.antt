@@ -1,3 +1,4 @@
+-- Proves the law `projection_laws`, clauses `peers`, `no_larger`, `no_deeper` and `limits`, by the lemmas of Projected.
 use Rattle.std.proofs.Common.{arith}
 use Rattle.mps_global.proofs.Sound.{sound_protocol}
 use Rattle.mps_local.proofs.Projected.{fitting}

@@ -1,3 +1,4 @@
+-- `write_branches` meets its clause `known`, by the lemmas of Written.
 use Rattle.mps_local.proofs.Written.{more_known}
 use Rattle.mps_local.proofs.writing.write_branches.Goals as goal
 

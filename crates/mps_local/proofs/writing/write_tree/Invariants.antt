@@ -1,3 +1,4 @@
+-- In each turn of the loop of `write_tree` the text so far, with the parts that wait, is that of the type.
 use Rattle.std.proofs.Common.{◌≡◌, length}
 use Rattle.std.specs.List.{AllByRecursion}
 use Rattle.mps_base.specs.Spaced.{with_tokens}

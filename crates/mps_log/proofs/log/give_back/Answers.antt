@@ -1,3 +1,4 @@
+-- `give_back` meets its clauses `fronts`, `slots` and `marks` and may call `drop_last` and `put_back`, by the lemmas of Leaving.
 use Rattle.std.proofs.Common.{refl, sym, ap, ◌∙◌, subst, eq-eqb}
 use Rattle.std.specs.Prelude.{◌==◌}
 use Rattle.std.proofs.lemmas.Bool.{and_from, and_parts}

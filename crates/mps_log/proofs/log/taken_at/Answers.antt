@@ -1,3 +1,4 @@
+-- `taken_at` may call `message_at`, by the lemmas of Waiting.
 use Rattle.std.proofs.Common.{sym, ◌∙◌}
 use Rattle.mps_log.proofs.Waiting.{source_keyed}
 use Rattle.mps_log.proofs.log.taken_at.Goals as goal

@@ -1,3 +1,4 @@
+-- `unbind` meets its contract and may call `unbind`, by the lemmas of Leaving.
 use Rattle.std.proofs.Common.{◌≡◌, ℕ, not, Some, None, refl, sym, ap, ◌∙◌, subst, eq-eqb, ⊎_elim}
 use Rattle.std.specs.Prelude.{◌==◌}
 use Rattle.std.specs.List.{filter}

@@ -1,3 +1,4 @@
+-- `moved_at` meets its contract, by the lemmas of Leaving and Walks.
 use Rattle.std.proofs.Common.{sym, ap, ◌∙◌}
 use Rattle.std.specs.Option.{option_and_then, option_or}
 use Rattle.mps_base.specs.declared.action.Act.{Act}

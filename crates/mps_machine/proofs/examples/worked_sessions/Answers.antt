@@ -1,4 +1,6 @@
-use Rattle.std.proofs.Common.{refl}
+-- Proves the law `worked_sessions`, clauses `an_undo_waits_for_the_receipt`, `a_rollback_removes_all_that_depends`, `a_rollback_leaves_the_strangers`, `a_rollback_leaves_what_came_before`, `a_receipt_undone_takes_the_same_message_again`, `an_undone_send_is_gone` and 26 more.
+use Rattle.std.proofs.Common.{refl, [], arith}
+use Rattle.mps_history.specs.Swaps.{Same, Exchange}
 use Rattle.mps_local.specs.Unfolding.{unfolded}
 use Rattle.mps_machine.proofs.examples.worked_sessions.Goals as goal
 
@@ -129,3 +131,15 @@ returns-clause-an_empty_return_is_never_final c = refl
 pub returns-clause-the_least_commit_is_named : goal.returns-clause-the_least_commit_is_named
 unfolding unfolded
 returns-clause-the_least_commit_is_named c = refl
+
+pub returns-clause-either_rollback_may_come_first : goal.returns-clause-either_rollback_may_come_first
+unfolding unfolded
+returns-clause-either_rollback_may_come_first c = (refl, refl, refl, refl)
+
+pub returns-clause-a_detour_leaves_no_trace : goal.returns-clause-a_detour_leaves_no_trace
+unfolding unfolded
+returns-clause-a_detour_leaves_no_trace c = (refl, refl)
+
+pub returns-clause-strangers_may_change_places : goal.returns-clause-strangers_may_change_places
+unfolding unfolded
+returns-clause-strangers_may_change_places c = Exchange _ _ [] [] _ _ refl (λ e. absurd (omega arith)) refl (Same _ _ refl)

@@ -1,3 +1,4 @@
+-- Proves the law `a_receipt_follows_its_send`, by the lemmas of Lawful.
 use Rattle.mps_machine.proofs.Lawful.{matched_later}
 use Rattle.mps_machine.proofs.laws.a_receipt_follows_its_send.Goals as goal
 

@@ -1,3 +1,4 @@
+-- Proves the law `consequences_can_be_removed`, by the lemmas of Apart.
 use Rattle.mps_history.specs.Dependence.{consequences}
 use Rattle.mps_history.proofs.Reaching.{consequences_closed}
 use Rattle.mps_machine.proofs.Apart.{left_out}

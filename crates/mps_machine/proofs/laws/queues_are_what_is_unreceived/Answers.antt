@@ -1,3 +1,4 @@
+-- Proves the law `queues_are_what_is_unreceived`, by the lemmas of Unreceived.
 use Rattle.mps_machine.specs.View.{opening}
 use Rattle.mps_machine.proofs.Unreceived.{queue_is}
 use Rattle.mps_machine.proofs.laws.queues_are_what_is_unreceived.Goals as goal

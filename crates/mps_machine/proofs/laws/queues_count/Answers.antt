@@ -1,3 +1,4 @@
+-- Proves the law `queues_count`, by the lemmas of Stepping.
 use Rattle.std.proofs.Common.{arith}
 use Rattle.mps_machine.specs.View.{opening}
 use Rattle.mps_machine.proofs.Stepping.{queue_count}

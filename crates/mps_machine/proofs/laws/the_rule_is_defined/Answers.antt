@@ -1,3 +1,4 @@
+-- Proves the law `the_rule_is_defined`, by the lemmas of Defined.
 use Rattle.std.proofs.Common.{sym, ap, ◌∙◌}
 use Rattle.std.specs.Prelude.{is_some}
 use Rattle.mps_machine.specs.Violations.{violation}

@@ -1,3 +1,4 @@
+-- Proves the law `equal_pasts_are_equal_views`, by the lemmas of Swapping.
 use Rattle.std.proofs.Common.{ap}
 use Rattle.mps_machine.specs.View.{View}
 use Rattle.mps_machine.proofs.Swapping.{past_of, one_past_is_one_view}

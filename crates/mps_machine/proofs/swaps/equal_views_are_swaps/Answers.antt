@@ -1,3 +1,4 @@
+-- Proves the law `equal_views_are_swaps`, by the lemmas of Swapping.
 use Rattle.mps_machine.proofs.Swapping.{one_view_by_swaps, swaps_keep, swaps_lead_to_one_view}
 use Rattle.mps_machine.proofs.swaps.equal_views_are_swaps.Goals as goal
 

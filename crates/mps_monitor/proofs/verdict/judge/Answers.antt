@@ -1,3 +1,4 @@
+-- `judge` meets its clauses `violation`, `allowed`, `advance`, `stay` and `offered`, by the lemmas of Judged.
 use Rattle.std.proofs.Common.{Some, None, refl}
 use Rattle.std.specs.Option.{option_copied}
 use Rattle.mps_base.specs.declared.action.Act.TheVariants.{Out, In}

@@ -1,3 +1,4 @@
+-- `write_lines` ends: at each call it has fewer types.
 use Rattle.std.proofs.Common.{length}
 use Rattle.mps_program.proofs.check.+write_lines.Given as goal
 

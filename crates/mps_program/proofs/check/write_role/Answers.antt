@@ -1,3 +1,4 @@
+-- `write_role` meets its contract, by the lemmas of Lines.
 use Rattle.std.proofs.Common.{◌≡◌, ℕ, List, Some, [], ◌∷◌, ◌++◌, ap, sym, subst, ◌∙◌}
 use Rattle.std.specs.Prelude.{codes, slice_get}
 use Rattle.std.proofs.lemmas.Option.{get_or_from_slice_get}

@@ -1,3 +1,4 @@
+-- `run_on_copy` meets its clause `fault`, by the lemmas of Causes.
 use Rattle.std.proofs.Common.{refl}
 use Rattle.mps_wire.proofs.Outcomes.{starts_starved}
 use Rattle.mps_wire.specs.declared.script.ReplayFault.TheVariants.{Memory}

@@ -1,3 +1,4 @@
+-- `verdict_of` meets its clauses `verdict` and `fault`, by the lemmas of Comparing.
 use Rattle.std.proofs.Common.{◌≡◌, List, ap, ◌∙◌}
 use mathlib.Core.Path.{ap₂}
 use Rattle.std.proofs.lemmas.Result.{IfErr-weaker, IfOk-weaker}

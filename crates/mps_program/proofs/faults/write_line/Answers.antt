@@ -1,3 +1,4 @@
+-- `write_line` meets its contract.
 use Rattle.std.proofs.Common.{◌≡◌, ℕ, List, [], ◌∷◌, ◌++◌, Result, Ok, Err, OnOk, ap, ◌∙◌, append_assoc, codes, refl}
 use Rattle.mps_base.specs.Appends.{AppendsSuch}
 use Rattle.mps_base.specs.Numbers.{IsNumberText}

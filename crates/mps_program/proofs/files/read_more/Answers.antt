@@ -1,3 +1,4 @@
+-- `read_more` meets its clause `fault`, by the lemmas of Causes.
 use Rattle.mps_program.specs.Faults.{IsReadFault}
 use Rattle.mps_program.proofs.Causes.{told}
 use Rattle.mps_program.proofs.files.read_more.Goals as goal

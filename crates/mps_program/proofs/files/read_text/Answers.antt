@@ -1,3 +1,4 @@
+-- `read_text` meets its clauses `most`, `bytes`, `whole`, `reads_well` and `fault` and keeps what holds in each turn of its loop, by the lemmas of Causes and Bounds.
 use Rattle.std.proofs.Common.{zero, suc, refl, length-append, ◌+◌, ◌≡◌, ◌≤◌, ℕ, length, take, ◌-◌, List, length-take, sym, ap, ◌∙◌, subst, arith}
 use Rattle.std.specs.Io.KnownBytes.{Consumes}
 use Rattle.mps_program.specs.Faults.{IsReadFault}

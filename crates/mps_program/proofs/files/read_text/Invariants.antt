@@ -1,3 +1,4 @@
+-- In each turn of the loop of `read_text` the text is what was read, no more than 65,537 bytes, and no read failed.
 use Rattle.std.proofs.Common.{◌≡◌, ◌+◌, ◌-◌, ◌≤◌, length}
 use Rattle.std.specs.Io.KnownBytes.{Consumes}
 use Rattle.mps_program.proofs.files.read_text.Given as goal

@@ -1,3 +1,4 @@
+-- In each turn of the loop of `open_journals` there is a file for each session so far.
 use Rattle.std.proofs.Common.{◌≡◌, vec_len}
 use Rattle.mps_program.proofs.journals.open_journals.Given as goal
 

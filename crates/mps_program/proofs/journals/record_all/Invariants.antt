@@ -1,3 +1,4 @@
+-- In each turn of the loop of `record_all` keepers and files that are left are as many as there were files.
 use Rattle.std.proofs.Common.{◌≡◌, ◌+◌, ◌≤◌, length, vec_len, vec_capacity}
 use Rattle.std.specs.Vec.Iter.{into_iter_items}
 use Rattle.mps_program.proofs.journals.record_all.Given as goal

@@ -1,3 +1,4 @@
+-- In each turn of the loop of `restore_all` files that were read and files that are left are as many as there were.
 use Rattle.std.proofs.Common.{◌≡◌, ◌+◌, ◌≤◌, length, vec_len, vec_capacity}
 use Rattle.std.specs.Vec.Iter.{into_iter_items}
 use Rattle.mps_program.proofs.journals.restore_all.Given as goal

@@ -1,3 +1,4 @@
+-- `tell_sessions` meets its clauses `told` and `lost`, by the lemmas of Telling.
 use Rattle.std.proofs.Common.{◌≡◌, ℕ, ◌+◌, ◌∷◌, Option, Some, refl, ap, ◌∙◌, subst}
 use Rattle.mps_room.specs.RoomState.{RoomState}
 use Rattle.mps_program.specs.Served.{IsSessionLine}

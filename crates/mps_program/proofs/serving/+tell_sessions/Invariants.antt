@@ -1,3 +1,4 @@
+-- `tell_sessions` ends: at each call it has fewer rooms.
 use Rattle.std.proofs.Common.{length}
 use Rattle.mps_program.proofs.serving.+tell_sessions.Given as goal
 

@@ -1,5 +1,6 @@
-use Rattle.mps_program.proofs.Causes.{server_fails}
+-- `serve_file` meets its contract, by the lemmas of Causes.
+use Rattle.mps_program.proofs.Causes.{server_told}
 use Rattle.mps_program.proofs.serving.serve_file.Goals as goal
 
-pub returns : goal.returns
-returns g c = record { fault = server_fails c.serve_to.result c.args.file.now _ _ _ _ _ _ c.recording_of-recording.ensures c.in_ok-hub.ensures.opened.first_is c.in_ok-hub.ensures.opened.cells.count c.serve_to.ensures.fault }
+pub returns-clause-fault : goal.returns-clause-fault
+returns-clause-fault g c = rw c.told.ensures.told (server_told c.args.verbose c.serve_from.result _ _ _ _ c.serve_from.ensures.fault)

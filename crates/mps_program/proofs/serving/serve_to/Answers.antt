@@ -1,3 +1,4 @@
+-- `serve_to` meets its clauses `told` and `lost`, by the lemmas of Telling.
 use Rattle.mps_program.proofs.Telling.{on_ok, served, served_broken_off}
 use Rattle.mps_program.proofs.serving.serve_to.Goals as goal
 

@@ -1,3 +1,4 @@
+-- Proves the law `idle_steps_may_join`, by the lemmas of Moves.
 use Rattle.mps_queues.proofs.Moves.{idle_joins}
 use Rattle.mps_queues.proofs.laws.idle_steps_may_join.Goals as goal
 

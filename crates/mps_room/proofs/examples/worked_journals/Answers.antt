@@ -1,3 +1,4 @@
+-- Proves the law `worked_journals`, clauses `the_news_is_what_others_took_back`, `an_own_undo_is_no_news`, `a_number_is_called_once` and `a_number_is_told_one_thing`, by the lemmas of Working.
 use Rattle.std.proofs.Common.{arith, refl}
 use Rattle.mps_local.specs.Unfolding.{unfolded}
 use Rattle.mps_room.proofs.Working.{one_state}

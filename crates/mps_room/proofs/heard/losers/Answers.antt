@@ -1,3 +1,4 @@
+-- `losers` keeps what holds in each turn of its loop, by the lemmas of Losing.
 use Rattle.std.proofs.Common.{◌≡◌, ℕ, ◌<◌, ◌+◌, true, false, drop, get_or, length, length-set, sym, ap, ◌∙◌, arith}
 use Rattle.std.specs.Prelude.{◌==◌, ◌||◌, Bool}
 use Rattle.std.specs.List.{list_any}

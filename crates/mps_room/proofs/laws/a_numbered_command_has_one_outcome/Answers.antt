@@ -1,3 +1,4 @@
+-- Proves the law `a_numbered_command_has_one_outcome`, by the lemmas of OneAnswer.
 use Rattle.mps_room.proofs.OneAnswer.{one_outcome}
 use Rattle.mps_room.proofs.laws.a_numbered_command_has_one_outcome.Goals as goal
 

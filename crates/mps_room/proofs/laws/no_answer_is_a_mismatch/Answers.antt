@@ -1,3 +1,4 @@
+-- Proves the law `no_answer_is_a_mismatch`, by the lemmas of Faithful.
 use Rattle.mps_room.proofs.Faithful.{answer_other}
 use Rattle.mps_room.proofs.laws.no_answer_is_a_mismatch.Goals as goal
 

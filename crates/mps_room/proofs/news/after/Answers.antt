@@ -1,3 +1,4 @@
+-- `after` meets its contract, by the lemmas of Halving.
 use Rattle.std.proofs.Common.{rules, ltb}
 use Rattle.std.proofs.lemmas.List.Sorted.{IsPartitionPoint-from_clause}
 use Rattle.std.specs.List.Sorted.{IsPartitionedBy}

@@ -1,3 +1,4 @@
+-- `news` meets its contract, by the lemmas of Telling.
 use Rattle.std.proofs.Common.{◌++◌, List, ℕ, ap, sym, ◌∙◌, arith, append-nil}
 use Rattle.std.specs.List.{filter, flat_map}
 use Rattle.std.proofs.lemmas.List.{at_drop_all}

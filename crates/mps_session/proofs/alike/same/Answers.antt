@@ -1,3 +1,4 @@
+-- `same` meets its clauses `views` and `swaps` and keeps what holds in each turn of its loop, by the lemmas of Pasts.
 use Rattle.std.proofs.Common.{◌≡◌, ℕ, map, refl, subst, arith, below_more}
 use Rattle.std.proofs.lemmas.Bool.{iff_false}
 use Rattle.mps_local.specs.Local.{plain}

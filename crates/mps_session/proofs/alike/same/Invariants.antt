@@ -1,3 +1,4 @@
+-- In each turn of the loop of `same` each role so far did the same in both sessions.
 use Rattle.std.proofs.Common.{◌≡◌, ◌<◌, ℕ}
 use Rattle.mps_session.specs.Private.Pasts.{past_in}
 use Rattle.mps_session.proofs.alike.same.Given as goal

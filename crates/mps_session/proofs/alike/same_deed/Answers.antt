@@ -1,3 +1,4 @@
+-- `same_deed` meets its contract, by the lemmas of SamePast.
 use Rattle.std.proofs.Common.{sym, ◌∙◌}
 use Rattle.mps_session.proofs.SamePast.{deeds_from, same_taken}
 use Rattle.mps_session.proofs.alike.same_deed.Goals as goal

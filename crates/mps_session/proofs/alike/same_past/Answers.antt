@@ -1,3 +1,4 @@
+-- `same_past` meets its contract, keeps what holds in each turn of its loop, and may call `same_deed`, by the lemmas of SamePast.
 use Rattle.std.proofs.Common.{refl, arith}
 use Rattle.std.proofs.lemmas.Bool.{iff_false}
 use Rattle.mps_session.proofs.SamePast.{alike_starts, first_ends, ends_by_count, first_longer, first_here, second_here, must_be_same, alike_goes}

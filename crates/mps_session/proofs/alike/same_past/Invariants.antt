@@ -1,3 +1,4 @@
+-- In each turn of the loop of `same_past` the role did the same in both sessions after the two steps where the walks stand.
 use Rattle.mps_session.proofs.SamePast.{AreAlike}
 use Rattle.mps_session.proofs.alike.same_past.Given as goal
 

@@ -1,3 +1,4 @@
+-- `cursors` keeps what holds in each turn of its loop, by the lemmas of OpeningCursors.
 use Rattle.std.proofs.Common.{◌≡◌, ℕ, suc, ◌+◌, arith, List, [], ◌∷◌, ◌++◌, map, take, get_or, sym, ap, ◌∙◌, subst}
 use Rattle.std.proofs.Math.Seq.{take-suc}
 use Rattle.std.proofs.lemmas.List.{map-append}

@@ -1,3 +1,4 @@
+-- In each turn of the loop of `cursors` there is a cursor at the beginning of each type so far.
 use Rattle.std.proofs.Common.{map, take}
 use Rattle.mps_local.specs.Local.{plain}
 use Rattle.mps_session.specs.Private.Opening.{AreStarts}

@@ -1,3 +1,4 @@
+-- `first_bad_peer` meets its clause `bad` and keeps what holds in each turn of its loop, by the lemmas of TypeAt.
 use Rattle.std.proofs.Common.{ℕ, ◌<◌, length, map, sym, ap, ◌∙◌, subst, below_more}
 use Rattle.std.proofs.lemmas.Bool.{false≢true}
 use Rattle.mps_local.specs.Local.{LocalType, plain}

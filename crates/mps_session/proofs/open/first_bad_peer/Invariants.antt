@@ -1,3 +1,4 @@
+-- In each turn of the loop of `first_bad_peer` each type so far names other roles of the session alone.
 use Rattle.std.proofs.Common.{ℕ, ◌<◌, length, map}
 use Rattle.mps_local.specs.Local.{plain}
 use Rattle.mps_machine.specs.View.{type_at}

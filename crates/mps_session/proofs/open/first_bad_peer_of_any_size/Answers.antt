@@ -1,3 +1,4 @@
+-- `first_bad_peer_of_any_size` keeps what holds in each turn of its loop, by the lemmas of FirstBadPeer and TypeAt.
 use Rattle.std.proofs.Common.{◌≡◌, ℕ, ◌+◌, List, [], ◌∷◌, ◌++◌, length, length-append, append_assoc, map, sym, ap, ◌∙◌, subst, arith}
 use Rattle.std.specs.Prelude.{IfSome, IfNone}
 use Rattle.std.proofs.lemmas.Bool.{false≢true}

@@ -1,3 +1,4 @@
+-- In each turn of the loop of `first_bad_peer_of_any_size` what was found is the least role with a bad peer, of those from the last one back to here.
 use Rattle.std.proofs.Common.{◌≡◌, List, ◌++◌, length, map}
 use Rattle.std.specs.Prelude.{IfSome, IfNone}
 use Rattle.mps_local.specs.declared.Local.{Local}

@@ -1,3 +1,4 @@
+-- `first_faulty` meets its clause `faulty` and keeps what holds in each turn of its loop, by the lemmas of TypeAt.
 use Rattle.std.proofs.Common.{◌≡◌, ℕ, ◌<◌, map, None, sym, ap, ◌∙◌, subst, below_more}
 use Rattle.mps_local.specs.Local.{plain}
 use Rattle.mps_local.specs.LocalFaults.{local_fault_of}

@@ -1,3 +1,4 @@
+-- In each turn of the loop of `first_faulty` no type so far has a fault.
 use Rattle.std.proofs.Common.{◌≡◌, ℕ, ◌<◌, map, None}
 use Rattle.mps_local.specs.Local.{plain}
 use Rattle.mps_local.specs.LocalFaults.{local_fault_of}

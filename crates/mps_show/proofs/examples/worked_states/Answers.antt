@@ -1,3 +1,4 @@
+-- Proves the law `worked_states`, clauses `a_message_that_waits_is_shown`, `a_received_message_is_shown` and `a_label_that_waits_is_shown`.
 use Rattle.std.proofs.Common.{refl}
 use Rattle.std.specs.Fmt.{digits}
 use Rattle.mps_local.specs.Unfolding.{unfolded}

@@ -1,3 +1,4 @@
+-- `name` may call `text`, by the lemmas of Texts.
 use Rattle.std.proofs.Common.{subst, sym}
 use Rattle.std.specs.Str.{IsAscii}
 use Rattle.mps_show.proofs.Texts.{name_is_plain, plain_is_ascii}

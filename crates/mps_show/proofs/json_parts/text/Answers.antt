@@ -1,3 +1,4 @@
+-- `text` never reaches what can't be.
 use Rattle.std.proofs.lemmas.Str.{IsUtf8-from_ascii}
 use Rattle.mps_show.proofs.json_parts.text.Goals as goal
 

@@ -1,3 +1,4 @@
+-- `value` may call `text`, by the lemmas of Texts.
 use Rattle.std.proofs.Common.{subst, sym}
 use Rattle.std.specs.Str.{IsAscii}
 use Rattle.mps_show.proofs.Texts.{plain_is_ascii}

@@ -1,3 +1,4 @@
+-- `expects` never reaches what can't be, by the lemmas of Texts.
 use Rattle.std.proofs.Common.{◌≡◌, ◌++◌, ℕ, List, true, sym, ap, ◌∙◌, subst}
 use Rattle.std.specs.Prelude.{is_ok}
 use Rattle.std.specs.Str.{IsAscii}

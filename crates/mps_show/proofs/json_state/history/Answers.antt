@@ -1,3 +1,4 @@
+-- `history` keeps what holds in each turn of its loop.
 use Rattle.std.proofs.Common.{ℕ, List, length, map, sym, ap, ◌∙◌, subst, ◌++◌}
 use Rattle.std.specs.List.{AllByRecursion}
 use Rattle.std.specs.Prelude.{Option}

@@ -1,3 +1,4 @@
+-- In each turn of the loop of `history` the rows so far, with those of the steps that are left, are the history's.
 use Rattle.std.proofs.Common.{◌≡◌, ◌++◌, length, map}
 use Rattle.std.specs.List.{AllByRecursion}
 use Rattle.mps_session.specs.Peers.{IsKnown}

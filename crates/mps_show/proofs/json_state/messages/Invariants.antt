@@ -1,3 +1,4 @@
+-- In each turn of the loop of `messages` the values so far, with those of the messages that are left, are the queue's.
 use Rattle.std.proofs.Common.{◌≡◌, ◌++◌, map}
 use Rattle.mps_session.specs.SessionState.{session_view}
 use Rattle.mps_show.specs.Shown.{waiting_shown}

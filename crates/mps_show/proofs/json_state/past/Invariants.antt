@@ -1,3 +1,4 @@
+-- In each turn of the loop of `past` the numbers so far, with those of the steps that are left, are the role's past.
 use Rattle.std.proofs.Common.{◌≡◌, ◌++◌, map}
 use Rattle.mps_history.specs.Steps.{numbers, steps_of}
 use Rattle.mps_show.specs.Shown.{number_shown}

@@ -1,3 +1,4 @@
+-- In each turn of the loop of `push_queues` the rows so far, with those of the receivers that are left, are those of the sender's queues.
 use Rattle.std.proofs.Common.{◌≡◌, ◌-◌, ◌++◌, length, map}
 use Rattle.std.specs.List.{flat_map, range_with_len}
 use Rattle.mps_session.specs.SessionState.{session_view}

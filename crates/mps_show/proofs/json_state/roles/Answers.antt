@@ -1,3 +1,4 @@
+-- `roles` keeps what holds in each turn of its loop, by the lemmas of Rows.
 use Rattle.std.proofs.Common.{ℕ, ◌+◌, ◌-◌, map, ap, ◌∙◌}
 use Rattle.std.specs.List.{range_with_len}
 use Rattle.mps_history.specs.Steps.{numbers, steps_of}

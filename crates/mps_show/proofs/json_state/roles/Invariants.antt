@@ -1,3 +1,4 @@
+-- In each turn of the loop of `roles` the rows so far, with those of the roles that are left, are those of all roles.
 use Rattle.std.proofs.Common.{◌≡◌, ◌-◌, ◌++◌, map}
 use Rattle.std.specs.List.{range_with_len}
 use Rattle.mps_history.specs.Steps.{numbers, steps_of}

@@ -1,3 +1,4 @@
+-- `store` meets its contract and keeps what holds in each turn of its loop, by the lemmas of Rows.
 use Rattle.std.proofs.Common.{◌≡◌, ℕ, ◌+◌, ◌≤◌, List, length, Some, drop, map, sym, ap, arith}
 use Rattle.std.specs.Prelude.{slice_get}
 use Rattle.std.proofs.lemmas.List.{drop_all}

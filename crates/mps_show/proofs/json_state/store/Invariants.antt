@@ -1,3 +1,4 @@
+-- In each turn of the loop of `store` the rows so far, with those of the slots that are left, are the store's.
 use Rattle.std.proofs.Common.{◌≡◌, ◌++◌, drop, map}
 use Rattle.mps_session.specs.SessionState.{session_view}
 use Rattle.mps_show.specs.Shown.{binding_shown}

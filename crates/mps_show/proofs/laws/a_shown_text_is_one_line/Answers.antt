@@ -1,3 +1,4 @@
+-- Proves the law `a_shown_text_is_one_line`, clauses `begins` and `shown`, by the lemmas of Plain.
 use Rattle.std.proofs.Common.{refl}
 use Rattle.mps_show.proofs.Plain.{text_is_shown}
 use Rattle.mps_show.proofs.laws.a_shown_text_is_one_line.Goals as goal

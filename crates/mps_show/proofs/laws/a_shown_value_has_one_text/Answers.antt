@@ -1,3 +1,4 @@
+-- Proves the law `a_shown_value_has_one_text`, clauses `no_float` and `text`, by the lemmas of Floats.
 use Rattle.std.proofs.Common.{ap}
 use Rattle.mps_show.proofs.Floats.{no_float}
 use Rattle.serde_json.specs.Written.{compact_text}

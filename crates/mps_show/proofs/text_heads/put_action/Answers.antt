@@ -1,3 +1,4 @@
+-- `put_action` meets its clause `plain`, by the lemmas of Rows and Texts.
 use Rattle.std.proofs.Common.{◌++◌, ◌∷◌}
 use Rattle.mps_base.specs.Sorts.{sort_word}
 use Rattle.mps_show.proofs.Rows.{on_ok}

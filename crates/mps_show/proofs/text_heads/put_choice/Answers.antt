@@ -1,3 +1,4 @@
+-- `put_choice` meets its clause `plain` and keeps what holds in each turn of its loop, by the lemmas of Rows and Texts.
 use Rattle.std.proofs.Common.{◌≡◌, ◌+◌, ◌≤◌, ◌∷◌, ℕ, List, length, drop, arith, sym, ap, ◌∙◌, subst}
 use Rattle.std.specs.List.{AllByRecursion}
 use Rattle.std.proofs.lemmas.List.{drop_more, drop_all}

@@ -1,3 +1,4 @@
+-- In each turn of the loop of `put_choice` the text so far, with the labels that are left, is that of the choice.
 use Rattle.std.proofs.Common.{◌≡◌, ◌∷◌, ◌++◌, drop}
 use Rattle.std.specs.List.{AllByRecursion}
 use Rattle.mps_base.specs.Spaced.{spaced}

@@ -1,3 +1,4 @@
+-- `put_mark` meets its clause `text`, by the lemmas of Texts.
 use Rattle.std.proofs.Common.{append_assoc, rules}
 use Rattle.mps_show.proofs.Texts.{words_stand}
 use Rattle.mps_show.proofs.text_parts.put_mark.Goals as goal

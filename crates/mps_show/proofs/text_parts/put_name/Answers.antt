@@ -1,3 +1,4 @@
+-- `put_name` may call `put_string`, by the lemmas of Texts.
 use Rattle.std.proofs.Common.{ℕ, List, subst, sym}
 use Rattle.std.specs.List.{AllByRecursion}
 use Rattle.mps_base.specs.Texts.{IsPlainByte}

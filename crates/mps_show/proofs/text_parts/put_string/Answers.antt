@@ -1,3 +1,4 @@
+-- `put_string` meets its clauses `text` and `plain`, by the lemmas of Texts.
 use Rattle.std.proofs.Common.{◌≡◌, ℕ, List, [], ◌∷◌, ◌++◌, sym, ap, ◌∙◌, append_assoc, rules}
 use Rattle.mps_show.proofs.Texts.{escape_plain, plain_is_shown}
 use Rattle.mps_show.proofs.text_parts.put_string.Goals as goal

@@ -1,3 +1,4 @@
+-- `put_expects` meets its clauses `text` and `plain`, by the lemmas of Rows and Texts.
 use Rattle.std.proofs.Common.{ℕ, List, [], ◌∷◌, ◌++◌, sym, ap, ◌∙◌}
 use Rattle.mps_base.specs.Spaced.{spaced}
 use Rattle.mps_local.specs.Actions.{head}

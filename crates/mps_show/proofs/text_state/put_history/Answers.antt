@@ -1,3 +1,4 @@
+-- `put_history` keeps what holds in each turn of its loop, by the lemmas of Rows.
 use Rattle.std.proofs.Common.{List, length, map, sym, ap, ◌∙◌, subst, ℕ}
 use Rattle.std.specs.List.{AllByRecursion}
 use Rattle.std.specs.Prelude.{Option}

@@ -1,3 +1,4 @@
+-- In each turn of the loop of `put_history` the text so far, with the steps that are left, is that of the history.
 use Rattle.std.proofs.Common.{◌≡◌, ◌++◌, length, map}
 use Rattle.std.specs.List.{AllByRecursion}
 use Rattle.mps_session.specs.Peers.{IsKnown}

@@ -1,3 +1,4 @@
+-- In each turn of the loop of `put_messages` the text so far, with the messages that are left, is that of the queue.
 use Rattle.std.proofs.Common.{◌≡◌, [], ◌∷◌, ◌++◌, true, map}
 use Rattle.mps_show.specs.Plain.{ArePlainItems}
 use Rattle.mps_show.specs.Shown.{row, role_name, waiting_shown}

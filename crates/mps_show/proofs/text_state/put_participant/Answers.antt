@@ -1,3 +1,4 @@
+-- `put_participant` meets its clauses `text` and `plain`, by the lemmas of Plain and Rows.
 use Rattle.std.proofs.Common.{[], ◌∷◌, ◌++◌, map, rules, codes}
 use Rattle.serde_json.proofs.OnLiterals.{serde_json_on_literals}
 use Rattle.mps_history.specs.Steps.{numbers, steps_of}

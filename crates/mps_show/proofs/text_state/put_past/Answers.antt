@@ -1,3 +1,4 @@
+-- `put_past` keeps what holds in each turn of its loop, by the lemmas of Rows.
 use Rattle.std.proofs.Common.{◌≡◌, List, [], map, ap, ◌∙◌}
 use Rattle.mps_base.specs.declared.action.Step.{Step}
 use Rattle.mps_history.specs.Steps.{numbers, steps_of}

@@ -1,3 +1,4 @@
+-- In each turn of the loop of `put_past` the text so far, with the role's steps that are left, is that of its past.
 use Rattle.std.proofs.Common.{◌≡◌, ◌++◌, map}
 use Rattle.mps_history.specs.Steps.{numbers, steps_of}
 use Rattle.mps_show.specs.Shown.{row, number_shown}

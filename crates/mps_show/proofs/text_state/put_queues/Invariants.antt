@@ -1,3 +1,4 @@
+-- In each turn of the loop of `put_queues` the text so far, with the queues of the senders that are left, is that of all queues.
 use Rattle.std.proofs.Common.{◌≡◌, ◌-◌, ◌++◌, length}
 use Rattle.std.specs.List.{flat_map, range_with_len}
 use Rattle.mps_session.specs.SessionState.{session_view}

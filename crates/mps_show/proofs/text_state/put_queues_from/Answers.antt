@@ -1,3 +1,4 @@
+-- `put_queues_from` keeps what holds in each turn of its loop, by the lemmas of Rows.
 use Rattle.std.proofs.Common.{◌≡◌, ℕ, ◌+◌, ◌-◌, ◌++◌, Bool, List, sym, ap, ◌∙◌, subst}
 use Rattle.std.specs.List.{flat_map, range_with_len}
 use Rattle.mps_session.specs.SessionState.{session_view}

@@ -1,3 +1,4 @@
+-- In each turn of the loop of `put_queues_from` the text so far, with the queues to the receivers that are left, is that of the sender's queues.
 use Rattle.std.proofs.Common.{◌≡◌, ◌-◌, ◌++◌, length}
 use Rattle.std.specs.List.{flat_map, range_with_len}
 use Rattle.mps_session.specs.SessionState.{session_view}

@@ -1,3 +1,4 @@
+-- In each turn of the loop of `put_roles` the text so far, with the roles that are left, is that of all roles.
 use Rattle.std.proofs.Common.{◌≡◌, ◌-◌, ◌++◌, map}
 use Rattle.std.specs.Prelude.{nat_lt}
 use Rattle.std.specs.List.{range_with_len}

@@ -1,3 +1,4 @@
+-- `put_state` meets its clause `text`, by the lemmas of Rows.
 use Rattle.std.proofs.Common.{[], ◌∷◌, ◌++◌, length, map, codes}
 use Rattle.serde_json.proofs.OnLiterals.{serde_json_on_literals}
 use Rattle.mps_session.specs.SessionState.{session_view, moves_of}

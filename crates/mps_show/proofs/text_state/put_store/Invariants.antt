@@ -1,3 +1,4 @@
+-- In each turn of the loop of `put_store` the text so far, with the slots that are left, is that of the store.
 use Rattle.std.proofs.Common.{◌≡◌, ◌++◌, drop, map}
 use Rattle.std.specs.Prelude.{nat_lt}
 use Rattle.mps_session.specs.SessionState.{session_view}

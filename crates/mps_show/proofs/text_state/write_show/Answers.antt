@@ -1,3 +1,4 @@
+-- `write_show` meets its clause `shown`, by the lemmas of Plain and Rows.
 use Rattle.mps_show.specs.Shown.{shown}
 use Rattle.mps_show.proofs.Plain.{text_is_shown}
 use Rattle.mps_show.proofs.Rows.{on_ok}

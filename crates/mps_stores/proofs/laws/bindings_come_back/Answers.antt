@@ -1,3 +1,4 @@
+-- Proves the law `bindings_come_back`.
 use Rattle.mps_history.proofs.Slots.{unbound-bound}
 use Rattle.mps_stores.proofs.laws.bindings_come_back.Goals as goal
 

@@ -1,3 +1,4 @@
+-- `compile` meets its clause `projected` and may call `table_of`.
 use Rattle.std.proofs.Common.{sym, ◌∙◌}
 use Rattle.mps_local.specs.Local.{plain}
 use Rattle.mps_local.proofs.Faultless.{faultless, fine_so}

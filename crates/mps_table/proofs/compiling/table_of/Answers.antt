@@ -1,3 +1,4 @@
+-- `table_of` meets its clauses `rows`, `labels` and `table`, keeps the invariant of its type, and may call `laid_out`, by the lemmas of Compiled and Sized.
 use Rattle.mps_local.specs.Local.{plain}
 use Rattle.mps_table.proofs.Compiled.{few_rows, few_labels, draft_sound, draft_stands}
 use Rattle.mps_table.proofs.Sized.{draft_rows, draft_labels}

@@ -1,3 +1,4 @@
+-- Proves the law `nodes_lead`, clauses `node`, `next` and `heads`, by the lemmas of Standing.
 use Rattle.mps_local.specs.Unfolding.{unfolded}
 use Rattle.mps_table.proofs.Standing.{node_stands, next_stands, head_begins}
 use Rattle.mps_table.proofs.laws.nodes_lead.Goals as goal

@@ -1,3 +1,4 @@
+-- `compares_two` may call `compares_both`.
 use Rattle.mps_global.specs.Global.{plain}
 use Rattle.mps_session.proofs.SameProjections.{one_projection}
 use Rattle.mps_test_memory.proofs.calls.compares_two.Goals as goal

@@ -1,3 +1,4 @@
+-- `present` meets its contract.
 use Rattle.std.proofs.Common.{sym, ◌∙◌}
 use Rattle.mps_links.proofs.Numbers.{step_there}
 use Rattle.mps_test_memory.proofs.calls.present.Goals as goal

@@ -1,3 +1,4 @@
+-- `rolls_back_one` may call `rolled_back`.
 use Rattle.mps_global.specs.Global.{plain}
 use Rattle.mps_session.proofs.SameProjections.{one_projection}
 use Rattle.mps_test_memory.proofs.calls.rolls_back_one.Goals as goal

@@ -1,3 +1,4 @@
+-- `told` may call `verdict_of`.
 use Rattle.mps_global.specs.Global.{plain as global_type}
 use Rattle.mps_session.proofs.SameProjections.{one_projection}
 use Rattle.mps_test_program.proofs.parts.told.Goals as goal

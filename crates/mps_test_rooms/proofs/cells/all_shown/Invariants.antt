@@ -1,3 +1,4 @@
+-- In each turn of the loop of `all_shown` all passes are of the cell.
 use Rattle.std.proofs.Common.{◌≡◌}
 use Rattle.std.specs.List.{All}
 use Rattle.mps_cell.specs.Calls.{Known}

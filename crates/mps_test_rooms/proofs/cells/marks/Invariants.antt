@@ -1,3 +1,4 @@
+-- In each turn of the loop of `marks` the pass is of the same cell.
 use Rattle.std.proofs.Common.{◌≡◌}
 use Rattle.mps_test_rooms.proofs.cells.marks.Given as goal
 

@@ -1,3 +1,4 @@
+-- `is_untried` may call `same`.
 use Rattle.mps_global.specs.Global.{plain}
 use Rattle.mps_session.proofs.SameProjections.{one_projection}
 use Rattle.mps_test_sessions.proofs.comparisons.is_untried.Goals as goal

@@ -1,3 +1,4 @@
+-- In each turn of the loop of `first_waiting` the send that was found is the first of those so far, from the last back, that isn't received.
 use Rattle.std.proofs.Common.{◌≡◌, length}
 use Rattle.mps_arena.specs.KeyedSteps.{AreSound}
 use Rattle.mps_links.proofs.Waiting.{IsSought}

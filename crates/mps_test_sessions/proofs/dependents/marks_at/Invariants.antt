@@ -1,3 +1,4 @@
+-- In each turn of the loop of `marks_at` no step is marked, in either loop.
 use Rattle.std.proofs.Common.{◌≡◌, []}
 use Rattle.mps_links.specs.Marks.{marked_keys}
 use Rattle.mps_test_sessions.proofs.dependents.marks_at.Given as goal

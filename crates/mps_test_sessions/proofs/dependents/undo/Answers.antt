@@ -1,3 +1,4 @@
+-- `undo` keeps what holds in each turn of its loop.
 use Rattle.std.proofs.Common.{sym, ◌∙◌, subst}
 use Rattle.mps_links.specs.Marks.{AreMarksClosed}
 use Rattle.mps_test_sessions.proofs.dependents.undo.Goals as goal

@@ -1,3 +1,4 @@
+-- `marks_and_undos` keeps what holds in each turn of its loop, by the lemmas of OneMore.
 use Rattle.std.proofs.Common.{ℕ, ◌<◌, length, List, sym, subst}
 use Rattle.std.specs.List.{AllByRecursion}
 use Rattle.std.specs.Prelude.{is_ok}

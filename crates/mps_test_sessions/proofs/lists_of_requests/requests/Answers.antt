@@ -1,3 +1,4 @@
+-- `requests` keeps what holds in each turn of its loop, by the lemmas of OneMore.
 use Rattle.std.proofs.Common.{◌<◌, length, List, sym, subst}
 use Rattle.std.specs.List.{AllByRecursion}
 use Rattle.std.specs.Prelude.{is_ok}

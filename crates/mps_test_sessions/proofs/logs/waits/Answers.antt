@@ -1,3 +1,4 @@
+-- `waits` meets its contract.
 use Rattle.std.proofs.Common.{arith, Bor, ◌≡◌, ℕ, length, true, Option, None, Some, refl, sym, ap, ◌∙◌}
 use Rattle.std.specs.Prelude.{IsSome}
 use Rattle.std.specs.Option.{option_and_then, option_copied, is_some}

@@ -1,3 +1,4 @@
+-- In each turn of the loop of `reached` the walk stands at a node of the table.
 use Rattle.mps_table.specs.Graph.{IsNode}
 use Rattle.mps_test_sessions.proofs.tables.reached.Given as goal
 

@@ -1,3 +1,4 @@
+-- In each turn of the loop of `drained` each turn is one call, and the bytes so far are what the source gave.
 use Rattle.std.proofs.Common.{◌≡◌, ◌+◌}
 use Rattle.std.specs.Io.KnownBytes.{Consumes}
 use Rattle.mps_test_texts.proofs.devices.drained.Given as goal

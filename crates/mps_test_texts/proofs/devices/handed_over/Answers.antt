@@ -1,3 +1,4 @@
+-- `handed_over` keeps what holds in each turn of its loop.
 use Rattle.std.proofs.Common.{arith, take, drop}
 use Rattle.std.proofs.Math.Seq.{take-add}
 use Rattle.std.proofs.lemmas.List.{take_rest}

@@ -1,3 +1,4 @@
+-- In each turn of the loop of `handed_over` the sink took the bytes so far, and no write failed.
 use Rattle.std.proofs.Common.{◌≡◌, ◌≤◌, length, take}
 use Rattle.std.specs.Io.KnownBytes.{Appends}
 use Rattle.mps_test_texts.proofs.devices.handed_over.Given as goal

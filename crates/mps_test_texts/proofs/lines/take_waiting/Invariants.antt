@@ -1,3 +1,4 @@
+-- The loop of `take_waiting` ends: at each turn fewer lines wait.
 use Rattle.std.proofs.Common.{length}
 use Rattle.mps_test_texts.proofs.lines.take_waiting.Given as goal
 

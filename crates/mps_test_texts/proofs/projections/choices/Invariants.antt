@@ -1,3 +1,4 @@
+-- In each turn of the loop of `choices` the type so far names the roles at the places 0 and 1 alone.
 use Rattle.std.proofs.Common.{◌<◌}
 use Rattle.mps_local.specs.Local.{plain}
 use Rattle.mps_local.specs.Shape.{AllPeers}

@@ -1,3 +1,4 @@
+-- `name_of` meets its contract, by the lemmas of Names.
 use Rattle.mps_text.proofs.Names.{name_given}
 use Rattle.mps_text.proofs.lexing.name_of.Goals as goal
 

@@ -1,3 +1,4 @@
+-- In each turn of the loop of `run_len` all bytes so far are of the run, which goes on with the others.
 use Rattle.std.proofs.Common.{◌≡◌, ◌+◌, drop}
 use Rattle.mps_text.specs.Private.Lexing.{run_len}
 use Rattle.mps_text.proofs.lexing.run_len.Given as goal

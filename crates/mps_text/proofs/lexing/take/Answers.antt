@@ -1,3 +1,4 @@
+-- `take` meets its clause `next`, by the lemmas of Propagated and Steps.
 use Rattle.mps_text.proofs.Propagated.{take_fails}
 use Rattle.mps_text.proofs.Steps.{lexed_next}
 use Rattle.mps_text.proofs.lexing.take.Goals as goal

@@ -1,3 +1,4 @@
+-- In each turn of the loop of `unblanked` what is left begins alike after its blanks.
 use Rattle.std.proofs.Common.{◌≡◌, length}
 use Rattle.mps_text.specs.Private.Lexing.{unblanked}
 use Rattle.mps_text.proofs.lexing.unblanked.Given as goal

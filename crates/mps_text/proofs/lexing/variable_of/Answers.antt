@@ -1,3 +1,4 @@
+-- `variable_of` meets its contract, by the lemmas of Names.
 use Rattle.mps_text.proofs.Names.{variable_given}
 use Rattle.mps_text.proofs.lexing.variable_of.Goals as goal
 

@@ -1,3 +1,4 @@
+-- `branches_at` and `global_at` meet their clause `runs`, by the lemmas of Propagated.
 use Rattle.std.proofs.Common.{◌+◌, [], ◌∷◌, ◌++◌, ap, ◌∙◌}
 use Rattle.std.specs.Prelude.{codes}
 use Rattle.mps_text.specs.Private.Reading.{Token, AName, Node, Exchange, Others, branch, behind_first, behind_exchange, behind_branch, run_from}

@@ -1,3 +1,4 @@
+-- The reading of a tree and of branches ends: at each call fewer nodes may still come.
 use Rattle.std.proofs.Common.{◌+◌, ◌*◌}
 use Rattle.mps_text.proofs.reading.+reading.Given as goal
 

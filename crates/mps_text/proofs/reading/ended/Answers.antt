@@ -1,3 +1,4 @@
+-- `ended` meets its clauses `runs` and `tokens`, by the lemmas of Steps and Propagated.
 use Rattle.std.proofs.Common.{arith}
 use Rattle.std.proofs.lemmas.Bool.Decides.{nat_tests}
 use Rattle.mps_text.proofs.Steps.{blanks_end, token_behind}

@@ -1,3 +1,4 @@
+-- `exchange_at` meets its clause `runs`, by the lemmas of Propagated.
 use Rattle.std.proofs.Common.{[], ◌∷◌, ◌∙◌}
 use Rattle.std.specs.Prelude.{codes}
 use Rattle.mps_text.specs.Private.Reading.{Token, AName, Exchange, behind_exchange}

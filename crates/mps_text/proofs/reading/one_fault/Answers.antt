@@ -1,3 +1,4 @@
+-- Proves the law `one_fault`, clauses `one` and `none`, by the lemmas of OneFault.
 use Rattle.mps_text.proofs.OneFault.{one_fault as one, only_memory}
 use Rattle.mps_text.proofs.reading.one_fault.Goals as goal
 

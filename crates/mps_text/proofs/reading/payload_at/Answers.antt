@@ -1,3 +1,4 @@
+-- `payload_at` meets its clause `tokens`, by the lemmas of Tokens.
 use Rattle.std.proofs.Common.{arith, Some, ap, sym, ◌∙◌}
 use Rattle.std.specs.Prelude.{codes}
 use Rattle.mps_text.proofs.Tokens.{which_is}

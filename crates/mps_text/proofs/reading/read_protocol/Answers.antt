@@ -1,3 +1,4 @@
+-- `read_protocol` meets its clauses `read`, `only` and `fault`.
 use Rattle.std.proofs.Common.{arith}
 use Rattle.mps_global.specs.Global.{plain}
 use Rattle.mps_text.proofs.FirstFault.{first_fault}

@@ -1,3 +1,4 @@
+-- `write_branches` meets its clause `named`, by the lemmas of Written.
 use Rattle.std.proofs.Common.{arith}
 use Rattle.mps_text.proofs.Written.{named_more}
 use Rattle.mps_text.proofs.writing.write_branches.Goals as goal

@@ -1,3 +1,4 @@
+-- In each turn of the loop of `write_names` the text so far, with the names that are left, is that of all names.
 use Rattle.std.proofs.Common.{◌≡◌, drop}
 use Rattle.std.specs.List.{AllByRecursion}
 use Rattle.mps_base.specs.Names.{IsName}

@@ -1,3 +1,4 @@
+-- `write_protocol` meets its clauses `text` and `spelled`, by the lemmas of Written.
 use Rattle.std.proofs.Common.{arith, ap, ◌∙◌}
 use Rattle.mps_base.specs.Spaced.{with_tokens}
 use Rattle.mps_global.specs.Global.{plain}

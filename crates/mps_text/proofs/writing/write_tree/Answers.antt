@@ -1,3 +1,4 @@
+-- `write_tree` keeps what holds in each turn of its loop, by the lemmas of Written.
 use Rattle.mps_base.specs.Spaced.{with_tokens}
 use Rattle.mps_global.specs.Global.{plain}
 use Rattle.mps_text.specs.Grammar.{IsNamed}

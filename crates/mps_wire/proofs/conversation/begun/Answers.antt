@@ -1,3 +1,4 @@
+-- `begun` meets its contract, by the lemmas of Taking.
 use Rattle.std.proofs.Common.{◌∙◌, sym}
 use Rattle.std.proofs.lemmas.Bool.{eqb-true, eqb-false}
 use Rattle.mps_wire.proofs.Taking.{begun_none, begun_some}

@@ -1,9 +1,10 @@
+-- In each turn of the loop of `converse` the whole lines read so far were answered, and each read is counted.
 use Rattle.std.proofs.Common.{◌≡◌, ◌+◌, ◌≤◌, length}
 use Rattle.mps_lines.specs.Lines.{most_kept}
 use Rattle.mps_wire.specs.Runs.{Going, GaveAtLeast}
 use Rattle.mps_wire.specs.Streams.{Counts, all_went_well, streams}
 use Rattle.mps_wire.specs.Conversations.{ConversesLine}
-use Rattle.mps_wire.specs.declared.conversation.TheConstants.{BLOCK}
+use Rattle.mps_wire.specs.declared.conversation.TheConstants.{CONVERSATION_BLOCK}
 use Rattle.mps_wire.proofs.conversation.converse.Given as goal
 
 abbrev pub invariant-loop : goal.invariant-loop
@@ -12,7 +13,7 @@ invariant-loop g l =
     let now = streams g.R.Source g.W.Sink l.reader l.writer in
     record {
       short : length l.going.line.items ≤ most_kept;
-      space : length l.block.items ≡ BLOCK;
+      space : length l.block.items ≡ CONVERSATION_BLOCK;
       reads : now.reads ≡ first.reads + l.counter;
       counts : Counts first now all_went_well;
       gave : GaveAtLeast l.counter first now;

@@ -1,3 +1,4 @@
+-- `read_and_answer` meets its clause `step`, by the lemmas of Conversing and Turning.
 use Rattle.std.proofs.Common.{rules, take, refl}
 use Rattle.mps_wire.specs.Streams.{streams}
 use Rattle.mps_wire.specs.Conversations.{ConversesLine, ConversesBrokenOff}

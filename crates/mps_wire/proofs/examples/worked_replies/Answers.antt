@@ -1,3 +1,4 @@
+-- `worked_replies` meets its clauses `a_number_is_answered_once` and `a_number_has_one_reply`, by the lemmas of Replying.
 use Rattle.std.proofs.Common.{refl, sym, ◌∙◌}
 use Rattle.mps_room.specs.Examples.{plain_caller}
 use Rattle.mps_room.specs.declared.numbers.Told.TheVariants.{Fresh, Kept, Wrong, Refused}

@@ -1,3 +1,4 @@
+-- Proves the law `a_conversation_makes_its_commands`, clauses `whole` and `broken_off`, by the lemmas of Making.
 use Rattle.mps_wire.proofs.Making.{lines_make, broken_makes}
 use Rattle.mps_wire.proofs.laws.a_conversation_makes_its_commands.Goals as goal
 

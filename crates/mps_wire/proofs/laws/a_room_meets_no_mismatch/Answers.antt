@@ -1,3 +1,4 @@
+-- Proves the law `a_room_meets_no_mismatch`.
 use Rattle.mps_room.proofs.Faithful.{answer_other}
 use Rattle.mps_wire.proofs.laws.a_room_meets_no_mismatch.Goals as goal
 

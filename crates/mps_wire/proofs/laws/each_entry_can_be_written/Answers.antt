@@ -1,3 +1,4 @@
+-- Proves the law `each_entry_can_be_written`, by the lemmas of Written.
 use Rattle.std.proofs.Common.{[]}
 use Rattle.mps_wire.proofs.Written.{entry_written}
 use Rattle.mps_wire.proofs.laws.each_entry_can_be_written.Goals as goal

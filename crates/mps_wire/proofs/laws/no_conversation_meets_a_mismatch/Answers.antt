@@ -1,3 +1,4 @@
+-- `no_conversation_meets_a_mismatch` meets its clauses `whole` and `broken_off`, by the lemmas of Faithful.
 use Rattle.std.proofs.Common.{[], sym, append-nil}
 use Rattle.mps_wire.proofs.Faithful.{conversation_fits, conversation_broken_fits}
 use Rattle.mps_wire.proofs.laws.no_conversation_meets_a_mismatch.Goals as goal

@@ -1,3 +1,4 @@
+-- `no_script_meets_a_mismatch` meets its clauses `whole`, `stopped`, `broken_off` and `broken_off_at_end`, by the lemmas of Faithful.
 use Rattle.std.proofs.Common.{[], sym, append-nil}
 use Rattle.mps_lines.specs.Lines.{with_last}
 use Rattle.mps_wire.proofs.Faithful.{script_fits, broken_fits}

@@ -1,3 +1,4 @@
+-- `take_line` meets its contract, by the lemmas of Calling.
 use Rattle.std.proofs.Common.{arith, ℕ, List, None, Some, refl, sym, subst}
 use Rattle.mps_base.specs.declared.value.Value.TheVariants.{Text}
 use Rattle.mps_command.specs.declared.command.Command.TheVariants.{Forward}

@@ -1,3 +1,4 @@
+-- `read_and_answer` meets its clause `step`, by the lemmas of Turning.
 use Rattle.std.proofs.Common.{rules, ◌≡◌, ◌+◌, [], take, inl, inr, refl}
 use Rattle.std.specs.Io.KnownBytes.{Appends}
 use Rattle.mps_wire.specs.Sending.{TookFront}

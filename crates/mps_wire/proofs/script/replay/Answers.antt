@@ -1,3 +1,4 @@
+-- `replay` meets its clause `outcome` and may call `replay_session`, by the lemmas of Outcomes.
 use Rattle.std.proofs.Common.{length, map, sym, ap, subst, ◌∙◌}
 use Rattle.std.proofs.lemmas.List.{length-map}
 use Rattle.mps_local.specs.Local.{plain}

@@ -1,9 +1,11 @@
+-- `replay_session` meets its clause `outcome` and keeps what holds in each turn of its loop.
 use Rattle.std.proofs.Common.{◌≡◌, [], length, Ok, Err, ap, ◌∙◌, arith}
 use Rattle.mps_room.specs.RoomState.{RoomState}
-use Rattle.mps_wire.specs.Runs.{ScriptRan, max_reads}
+use Rattle.mps_dev.specs.Reads.{max_reads}
+use Rattle.mps_wire.specs.Runs.{ScriptRan}
 use Rattle.mps_wire.specs.Script.{AnswersLine}
 use Rattle.mps_wire.specs.Streams.{all_went_well, one_read_ended, streams}
-use Rattle.mps_wire.specs.declared.script.TheConstants.{BLOCK}
+use Rattle.mps_wire.specs.declared.script.TheConstants.{SCRIPT_BLOCK}
 use Rattle.mps_wire.proofs.Bytes.{same_space}
 use Rattle.mps_wire.proofs.Carrying.{turned}
 use Rattle.mps_session.proofs.PassedOn.{passed_on}
@@ -73,7 +75,7 @@ loop-preserved g c =
       types = c.in_ok-read_and_answer.ensures.types ∙ i.types;
       short = c.in_ok-read_and_answer.ensures.short;
       none_waits = c.in_ok-read_and_answer.ensures.none_wait;
-      space = same_space c.loop.block.len BLOCK c.read_and_answer.new.block c.loop.block.items c.loop.block.ok.0 i.space;
+      space = same_space c.loop.block.len SCRIPT_BLOCK c.read_and_answer.new.block c.loop.block.items c.loop.block.ok.0 i.space;
       reads = omega (arith, c.in_ok-read_and_answer.ensures.reads, i.reads);
       counts = counts_more first old now i.counts all_went_well on.1;
       gave = gave_more first old now _ i.gave on.2;

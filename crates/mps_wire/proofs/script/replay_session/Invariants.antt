@@ -1,9 +1,10 @@
+-- In each turn of the loop of `replay_session` the whole lines read so far were answered, no answer waits to be written, and each read is counted.
 use Rattle.std.proofs.Common.{◌≡◌, ◌+◌, ◌≤◌, [], length}
 use Rattle.mps_lines.specs.Lines.{most_kept}
 use Rattle.mps_wire.specs.Runs.{Going, GaveAtLeast}
 use Rattle.mps_wire.specs.Script.{AnswersLine}
 use Rattle.mps_wire.specs.Streams.{Counts, all_went_well, streams}
-use Rattle.mps_wire.specs.declared.script.TheConstants.{BLOCK}
+use Rattle.mps_wire.specs.declared.script.TheConstants.{SCRIPT_BLOCK}
 use Rattle.mps_wire.proofs.script.replay_session.Given as goal
 
 abbrev pub invariant-loop : goal.invariant-loop
@@ -15,7 +16,7 @@ invariant-loop g l =
       types : l.run.room.types ≡ l.fn.session.types;
       short : length l.run.line.items ≤ most_kept;
       none_waits : l.run.answers.items ≡ [];
-      space : length l.block.items ≡ BLOCK;
+      space : length l.block.items ≡ SCRIPT_BLOCK;
       reads : now.reads ≡ first.reads + l.counter;
       counts : Counts first now all_went_well;
       gave : GaveAtLeast l.counter first now;

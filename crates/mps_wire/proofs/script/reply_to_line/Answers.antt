@@ -1,3 +1,4 @@
+-- `reply_to_line` meets its clause `reply` and may call `reply_to_command`, by the lemmas of Serving.
 use Rattle.std.proofs.Common.{ℕ, List, inl, inr, refl, sym, subst, arith}
 use Rattle.mps_command.specs.declared.answer.Answer.TheVariants.{Refused}
 use Rattle.mps_command.specs.declared.answer.Refusal.TheVariants.{Memory}

@@ -1,3 +1,4 @@
+-- `reply_with_news` meets its contract, by the lemmas of Serving.
 use Rattle.mps_command.specs.declared.command.Command.TheVariants.{News}
 use Rattle.mps_wire.proofs.Serving.{answered, unchanged}
 use Rattle.mps_wire.proofs.script.reply_with_news.Goals as goal

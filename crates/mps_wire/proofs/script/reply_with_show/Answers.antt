@@ -1,3 +1,4 @@
+-- `reply_with_show` meets its contract, by the lemmas of Serving.
 use Rattle.mps_command.specs.declared.command.Command.TheVariants.{Show}
 use Rattle.mps_wire.proofs.Serving.{answered, unchanged}
 use Rattle.mps_wire.proofs.script.reply_with_show.Goals as goal

@@ -1,3 +1,4 @@
+-- `send_all` keeps what holds in each turn of its loop, by the lemmas of Bytes.
 use Rattle.std.proofs.Common.{◌∙◌}
 use Rattle.mps_wire.proofs.Bytes.{sends_on}
 use Rattle.mps_wire.proofs.sending.send_all.Goals as goal

@@ -1,3 +1,4 @@
+-- In each turn of the loop of `send_all` the sink took the bytes before the rest, and no write failed.
 use Rattle.std.proofs.Common.{◌≡◌, length}
 use Rattle.mps_wire.proofs.Bytes.{Sending}
 use Rattle.mps_wire.proofs.sending.send_all.Given as goal

@@ -1,3 +1,4 @@
+-- `Arena::add` meets its clauses `keyed_steps` and `sound` and keeps the invariant of its type, by the lemmas of Keeping.
 use Rattle.std.proofs.Common.{arith, ◌≡◌, ℕ, ◌+◌, ◌∷◌, [], ◌++◌, Some, false, sym, ap, ◌∙◌, subst, cond}
 use Rattle.std.specs.Prelude.{◌==◌}
 use Rattle.std.specs.Option.{option_map}

@@ -1,3 +1,4 @@
+-- `Arena::by_id` meets its contract, by the lemmas of Numbers.
 use Rattle.std.proofs.Common.{List, ℕ, ap, ◌∙◌}
 use Rattle.std.specs.Prelude.{◌==◌}
 use Rattle.std.specs.List.{find}

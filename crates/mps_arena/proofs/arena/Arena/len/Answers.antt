@@ -1,3 +1,4 @@
+-- `Arena::len` meets its clauses `count` and `sound`, by the lemmas of Keeping.
 use Rattle.std.proofs.Common.{length, ap, ◌∙◌, subst}
 use Rattle.mps_arena.specs.KeyedSteps.{ArenaState, AreSound}
 use Rattle.mps_arena.proofs.Keeping.{kept_sound}

@@ -1,3 +1,4 @@
+-- `Arena::nth` meets its contract and keeps what holds in each turn of its loop, by the lemmas of Walking.
 use Rattle.std.proofs.Common.{◌≡◌, ◌+◌, suc, slice_get, sym, ap, ◌∙◌, arith}
 use Rattle.std.proofs.lemmas.Option.{slice_get_past}
 use Rattle.mps_arena.specs.KeyedSteps.{keys_of, any_step}

@@ -1,3 +1,4 @@
+-- In each turn of the loop of `Arena::nth` the key is that of the step at the counter.
 use Rattle.std.proofs.Common.{◌≡◌, Some, slice_get}
 use Rattle.mps_arena.specs.KeyedSteps.{keys_of, any_step}
 use Rattle.mps_arena.proofs.arena.Arena.nth.Given as goal

@@ -1,3 +1,4 @@
+-- `Arena::remove` meets its clauses `keyed_steps`, `history` and `sound`, keeps the invariant of its type, and may call `part`, by the lemmas of Keeping and Histories.
 use Rattle.std.proofs.Common.{arith, ◌≡◌, Some, not, sym, ap, ◌∙◌, subst}
 use Rattle.std.specs.Prelude.{◌==◌}
 use Rattle.std.specs.List.{filter}

@@ -1,3 +1,4 @@
+-- `Inline::of` keeps the invariant of its type, by the lemmas of Kept.
 use Rattle.std.proofs.Common.{ap, List, ℕ, ◌++◌, drop, replicate, length}
 use Rattle.mps_base.proofs.Kept.{kept}
 use Rattle.mps_base.proofs.inline.Inline.of.Goals as goal

@@ -1,3 +1,4 @@
+-- `Value::write` meets its clause `ok`.
 use Rattle.std.proofs.Common.{rules}
 use Rattle.std.specs.Prelude.{FitsSigned}
 use Rattle.std.specs.Int.{w64}

@@ -1,3 +1,4 @@
+-- `Cell::close` meets its contract, by the lemmas of Dealing.
 use Rattle.std.proofs.Common.{subst}
 use Rattle.mps_cell.specs.Private.Origins.{opening_in}
 use Rattle.mps_cell.specs.Cells.{Closes, Opened}

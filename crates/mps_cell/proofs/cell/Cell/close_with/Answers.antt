@@ -1,3 +1,4 @@
+-- `Cell::close_with` meets its clauses `room` and `holds`, by the lemmas of Dealing.
 use Rattle.std.proofs.Common.{subst, sym}
 use Rattle.mps_cell.specs.Private.Origins.{opening_in}
 use Rattle.mps_cell.specs.Calls.{Known}

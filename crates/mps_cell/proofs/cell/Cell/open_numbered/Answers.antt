@@ -1,3 +1,4 @@
+-- `Cell::open_numbered` may call `new`, by the lemmas of Keeping.
 use Rattle.std.proofs.Common.{ap}
 use Rattle.mps_room.specs.RoomState.{RoomState}
 use Rattle.mps_cell.proofs.Keeping.{opens_with}

@@ -1,3 +1,4 @@
+-- `Pass::call_with` meets its clause `call`, by the lemmas of Answering.
 use Rattle.std.proofs.Common.{◌∙◌}
 use Rattle.mps_cell.proofs.Answering.{called}
 use Rattle.mps_cell.proofs.pass.Pass.call_with.Goals as goal

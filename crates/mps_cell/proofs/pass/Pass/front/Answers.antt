@@ -1,3 +1,4 @@
+-- `Pass::front` may call `load`, by the lemmas of Keeping.
 use Rattle.std.proofs.Common.{arith}
 use Rattle.mps_cell.proofs.Keeping.{looks}
 use Rattle.mps_cell.proofs.pass.Pass.front.Goals as goal

@@ -1,3 +1,4 @@
+-- `Pass::try_call` meets its clause `call`, by the lemmas of Answering.
 use Rattle.std.proofs.Common.{◌∙◌}
 use Rattle.mps_cell.specs.Private.Rule.{Took}
 use Rattle.mps_cell.proofs.Answering.{called}

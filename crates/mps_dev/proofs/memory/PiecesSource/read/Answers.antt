@@ -1,3 +1,4 @@
+-- `Pieces::read` meets its clauses `left` and `bytes`, by the lemmas of PiecesLeft.
 use Rattle.std.proofs.Common.{◌≡◌, ◌<◌, [], ◌++◌, arith, get_or, length, min, map, take, drop, vec_items}
 use Rattle.std.proofs.lemmas.Grind.{common_steps}
 use Rattle.mps_dev.specs.Pieces.{first_piece, left_from}

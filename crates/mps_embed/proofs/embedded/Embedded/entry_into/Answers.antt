@@ -1,3 +1,4 @@
+-- `Embedded::entry_into` meets its clause `empty`, by the lemmas of Ends.
 use Rattle.std.proofs.Common.{◌≡◌, ◌<◌, ◌≤◌, ℕ, List, Some, None, Ok, slice_get, length, ap, subst, arith}
 use Rattle.mps_room.specs.declared.entry.Entry.{Entry as Kept}
 use Rattle.mps_embed.specs.Embedded.{EmbeddedState}

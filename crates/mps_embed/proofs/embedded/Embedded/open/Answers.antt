@@ -1,3 +1,4 @@
+-- `Embedded::open` meets its clause `opened`.
 use Rattle.std.proofs.Common.{◌≡◌, ◌∙◌, None, refl, sym, ap, subst}
 use Rattle.std.proofs.lemmas.List.Elements.{All-set}
 use Rattle.mps_open.specs.Texts.{AreTypesOf}

@@ -1,3 +1,4 @@
+-- `Embedded::run` meets its contract, by the lemmas of Speaking.
 use native.Mathlib.Omega.{arith}
 use Rattle.std.proofs.Common.{refl, sym, ap, subst}
 use Rattle.mps_room.specs.Numbers.{kept_of}

@@ -1,3 +1,4 @@
+-- `Desk::give_all` keeps what holds in each turn of its loop, by the lemmas of Placing.
 use Rattle.mps_hub.proofs.Placing.{front_in_place}
 use Rattle.mps_hub.proofs.desk.Desk.give_all.Goals as goal
 

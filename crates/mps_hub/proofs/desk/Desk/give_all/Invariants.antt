@@ -1,3 +1,4 @@
+-- In each turn of the loop of `Desk::give_all` the passes that are left are those of the first roles, each in its place.
 use Rattle.std.proofs.Common.{length}
 use Rattle.mps_hub.specs.Restoring.{AreInPlace}
 use Rattle.mps_hub.proofs.desk.Desk.give_all.Given as goal

@@ -1,3 +1,4 @@
+-- `Desk::new` may call `new`, by the lemmas of Locking.
 use Rattle.std.proofs.Common.{List, [], ◌∷◌, ◌++◌, refl, ap, sym, ◌∙◌}
 use Rattle.mps_cell.specs.Cells.{Opened}
 use Rattle.mps_hub.proofs.Locking.{begins}

@@ -1,3 +1,4 @@
+-- `Desk::take_all` keeps what holds in each turn of its loop, by the lemmas of Placing.
 use Rattle.std.proofs.Common.{rules, arith, length, ◌≡◌}
 use Rattle.mps_hub.proofs.Placing.{more_in_place}
 use Rattle.mps_hub.proofs.desk.Desk.take_all.Goals as goal

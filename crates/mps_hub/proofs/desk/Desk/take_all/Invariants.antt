@@ -1,3 +1,4 @@
+-- In each turn of the loop of `Desk::take_all` there is the pass of each role so far, in its place.
 use Rattle.std.proofs.Common.{◌≡◌, ◌≤◌, vec_len, vec_capacity}
 use Rattle.mps_hub.specs.Restoring.{AreInPlace}
 use Rattle.mps_hub.proofs.desk.Desk.take_all.Given as goal

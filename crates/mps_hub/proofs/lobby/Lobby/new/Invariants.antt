@@ -1,3 +1,4 @@
+-- In each turn of the loop of `Lobby::new` there is a free place for each turn.
 use Rattle.std.proofs.Common.{◌≡◌, ◌≤◌, vec_len, vec_capacity}
 use Rattle.mps_hub.specs.declared.lobby.TheConstants.{MAX_OPEN}
 use Rattle.mps_hub.proofs.lobby.Lobby.new.Given as goal

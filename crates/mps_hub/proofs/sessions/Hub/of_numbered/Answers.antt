@@ -1,3 +1,4 @@
+-- `Hub::of_numbered` keeps what holds in each turn of its loop, by the lemmas of Cells.
 use Rattle.std.proofs.Common.{◌≡◌, ℕ, ◌+◌, List, ◌∷◌, [], ◌++◌, length, sym, ap, ◌∙◌, subst, arith, append_assoc, length-append}
 use Rattle.std.specs.Vec.Iter.{into_iter_items}
 use Rattle.mps_session.specs.SessionState.{SessionState}

@@ -1,3 +1,4 @@
+-- In each turn of the loop of `Hub::of_numbered` each session so far has its cell and its deal, in order.
 use Rattle.std.proofs.Common.{◌≡◌, ◌+◌, ◌≤◌, ◌++◌, length, vec_capacity}
 use Rattle.std.specs.Vec.Iter.{into_iter_items}
 use Rattle.mps_hub.specs.Halls.{AreCellsOf, AreDeals}

@@ -1,3 +1,4 @@
+-- `Book::append` meets its clauses `added` and `broken_off`, by the lemmas of Taking.
 use Rattle.mps_keeper.proofs.Taking.{took_text, broken_more}
 use Rattle.mps_keeper.proofs.book.Book.append.Goals as goal
 

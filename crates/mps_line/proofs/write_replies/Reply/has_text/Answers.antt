@@ -1,3 +1,4 @@
+-- `Reply::has_text` meets its clause `text`, by the lemmas of Writing.
 use Rattle.std.specs.Prelude.{codes}
 use Rattle.mps_line.proofs.Writing.{bad_line, no_session, no_role, taken, wrong_number}
 use Rattle.mps_line.proofs.write_replies.Reply.has_text.Goals as goal

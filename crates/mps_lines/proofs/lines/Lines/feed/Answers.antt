@@ -1,3 +1,4 @@
+-- `Lines::feed` meets its clause `ok` and keeps the invariant of its type, by the lemmas of Cutting.
 use Rattle.std.proofs.Common.{◌≡◌, ◌+◌, ◌<◌, ◌≤◌, length, take, arith}
 use Rattle.mps_lines.specs.Cuts.{cut}
 use Rattle.mps_lines.proofs.Cutting.{IsKept, cut_splits, kept_piece, kept_rest, kept_view}

@@ -1,3 +1,4 @@
+-- `Lines::finish` meets its clauses `last` and `ok`, keeps the invariant of its type, and may call `take_line`, by the lemmas of Cutting.
 use Rattle.std.proofs.Common.{◌≡◌, length, arith}
 use Rattle.std.proofs.lemmas.List.{take_all, drop_all}
 use Rattle.mps_lines.proofs.Cutting.{all_rest, last_is}

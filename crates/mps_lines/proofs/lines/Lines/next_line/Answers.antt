@@ -1,3 +1,4 @@
+-- `Lines::next_line` meets its clauses `first`, `others` and `rest`, keeps the invariant of its type, and overflows no number, by the lemmas of Cutting.
 use Rattle.std.proofs.Common.{◌≡◌, ◌∷◌, take, map, slice_get, arith}
 use Rattle.mps_lines.specs.Cuts.{cut, line_of}
 use Rattle.mps_lines.proofs.Cutting.{next_whole, no_line, rest_within}

@@ -1,3 +1,4 @@
+-- `Pending::earliest` meets its contract and keeps what holds in each turn of its loop, by the lemmas of Kept.
 use Rattle.std.proofs.Common.{◌≡◌, ◌<◌, List, None, length, take, sym, ap, ◌∙◌, subst, arith}
 use Rattle.std.specs.Prelude.{slice_index_or}
 use Rattle.std.proofs.lemmas.List.{take_all}

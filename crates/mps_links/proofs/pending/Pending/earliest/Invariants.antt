@@ -1,3 +1,4 @@
+-- In each turn of the loop of `Pending::earliest` the key is the earliest of the pending ones so far.
 use Rattle.std.proofs.Common.{◌≡◌, List, take}
 use Rattle.mps_arena.specs.KeyedSteps.{KeyedStep}
 use Rattle.mps_links.specs.Private.Numbered.{key_of, keys_alone, HasNumber, HaveNumbers}

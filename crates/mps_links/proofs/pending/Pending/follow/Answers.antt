@@ -1,3 +1,4 @@
+-- `Pending::follow` meets its clause `keys` and may call `with_number` and `role_at`, by the lemmas of Kept and Present.
 use Rattle.std.proofs.Common.{◌≡◌, ◌<◌, ℕ, Option, Some, None, length, sym, ap, ◌∙◌, arith}
 use Rattle.std.specs.Prelude.{IsSome, slice_index_or, slice_set}
 use Rattle.std.proofs.lemmas.List.{map-set, get_or-map, length-set}

@@ -1,3 +1,4 @@
+-- `Log::choose_from` meets its clauses `sound` and `commits` and keeps the invariant of its type, by the lemmas of Remarked.
 use Rattle.std.proofs.Common.{◌≡◌, List, Bool, false, sym, ap, ◌∙◌, subst}
 use Rattle.mps_history.specs.Dependence.{consequences}
 use Rattle.mps_history.specs.Commits.{is_commit, commits_from}

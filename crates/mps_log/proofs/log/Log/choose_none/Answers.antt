@@ -1,3 +1,4 @@
+-- `Log::choose_none` meets its clause `sound` and keeps the invariant of its type, by the lemmas of Remarked.
 use Rattle.std.proofs.Common.{◌≡◌, List, Bool, false, sym, subst}
 use Rattle.mps_history.specs.Commits.{is_commit}
 use Rattle.mps_arena.specs.KeyedSteps.{KeyedStep, AreSound}

@@ -1,3 +1,4 @@
+-- `Log::commit` keeps the invariant of its type.
 use Rattle.std.proofs.Common.{◌≡◌, [], ◌∷◌, ◌++◌, List, None, false, refl, sym, ap, ◌∙◌, subst}
 use Rattle.mps_base.specs.declared.action.Act.TheVariants.{Commit}
 use Rattle.mps_arena.specs.KeyedSteps.{KeyedStep}

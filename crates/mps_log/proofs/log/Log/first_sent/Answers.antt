@@ -1,3 +1,4 @@
+-- `Log::first_sent` meets its clauses `step`, `message` and `gives` and may call `get`, by the lemmas of Queued and Waiting.
 use Rattle.std.proofs.Common.{◌≡◌, ◌<◌, ℕ, List, Some, length, arith, refl, sym, ap, ◌∙◌, subst}
 use Rattle.std.specs.Prelude.{slice_get, IsSome}
 use Rattle.std.specs.Option.{option_and_then}

@@ -1,3 +1,4 @@
+-- `Log::least_dependent` meets its clause `free`.
 use Rattle.std.proofs.Common.{◌≡◌, ℕ, None, Some, subst}
 use Rattle.std.specs.Prelude.{◌==◌}
 use Rattle.std.specs.List.{find}

@@ -1,3 +1,4 @@
+-- `Log::least_final` meets its contract, by the lemmas of Settled.
 use Rattle.std.proofs.Common.{sym, ap, ◌∙◌}
 use Rattle.mps_history.specs.Dependence.{least}
 use Rattle.mps_links.specs.Marks.{marked_commits}

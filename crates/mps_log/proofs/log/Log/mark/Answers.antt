@@ -1,3 +1,4 @@
+-- `Log::mark` keeps the invariant of its type, by the lemmas of Settled.
 use Rattle.std.proofs.Common.{◌≡◌, [], ◌∷◌, ◌++◌, List, false, refl, sym, ap, ◌∙◌, subst}
 use Rattle.mps_base.specs.declared.action.Act.TheVariants.{Mark}
 use Rattle.mps_arena.specs.KeyedSteps.{KeyedStep}

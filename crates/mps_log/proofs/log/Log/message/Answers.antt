@@ -1,3 +1,4 @@
+-- `Log::message` meets its contract and may call `message_at`, by the lemmas of Waiting.
 use Rattle.std.proofs.Common.{◌<◌, arith, sym, ap, ◌∙◌}
 use Rattle.std.specs.Prelude.{slice_get}
 use Rattle.std.specs.Option.{option_and_then}

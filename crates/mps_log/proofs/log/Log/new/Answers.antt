@@ -1,3 +1,4 @@
+-- `Log::new` keeps the invariant of its type.
 use Rattle.std.proofs.Common.{List, sym, subst}
 use Rattle.mps_arena.specs.KeyedSteps.{KeyedStep, AreSound}
 use Rattle.mps_arena.proofs.Matched.{sound_nil}

@@ -1,3 +1,4 @@
+-- `Log::remove` keeps the invariant of its type, by the lemmas of Settled.
 use Rattle.std.proofs.Common.{List, not, sym, subst}
 use Rattle.std.specs.Prelude.{◌==◌}
 use Rattle.mps_arena.specs.KeyedSteps.{KeyedStep}

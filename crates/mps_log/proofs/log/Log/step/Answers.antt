@@ -1,3 +1,4 @@
+-- `Log::step` meets its contract and may call `get`, by the lemmas of Waiting.
 use Rattle.std.proofs.Common.{ℕ, [], Option, refl, sym, ap, ◌∙◌, eq-eqb}
 use Rattle.std.specs.Prelude.{slice_get}
 use Rattle.std.specs.Option.{option_and_then, option_map}

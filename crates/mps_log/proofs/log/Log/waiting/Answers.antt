@@ -1,3 +1,4 @@
+-- `Log::waiting` may call `of`, by the lemmas of Waiting.
 use Rattle.std.proofs.Common.{◌<◌, ℕ, List, arith, sym, ap, length}
 use Rattle.std.specs.Prelude.{slice_get}
 use Rattle.mps_history.specs.Steps.{receives}

@@ -1,3 +1,4 @@
+-- `Moves::of` meets its contract, by the lemmas of Walks.
 use Rattle.std.proofs.Common.{[], ap, ◌∙◌}
 use Rattle.mps_log.specs.Shown.{shown}
 use Rattle.mps_log.specs.Private.Shown.{from_key}

@@ -1,3 +1,4 @@
+-- `Moves::next` meets its clauses `steps` and `goes`, keeps the invariant of its type, and may call `get`, by the lemmas of Walks.
 use Rattle.std.proofs.Common.{◌≡◌, ◌∷◌, length, arith, Option, Some, List, sym, ap, ◌∙◌}
 use mathlib.Core.Path.{ap₂}
 use Rattle.std.specs.Option.{option_map, option_and_then}

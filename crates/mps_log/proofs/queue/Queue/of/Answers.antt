@@ -1,3 +1,4 @@
+-- `Queue::of` meets its contract, by the lemmas of Queued.
 use Rattle.std.proofs.Common.{◌∙◌}
 use Rattle.mps_queues.proofs.Moves.{first_left}
 use Rattle.mps_log.proofs.Queued.{left_from}

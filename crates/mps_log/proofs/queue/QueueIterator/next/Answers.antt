@@ -1,3 +1,4 @@
+-- `Queue::next` meets its clauses `steps` and `goes`, keeps the invariant of its type, may call `message_at`, and never reaches what can't be, by the lemmas of Queued.
 use Rattle.std.proofs.Common.{◌≡◌, length, arith, Some, None, sym, ap, ◌∙◌}
 use Rattle.mps_log.proofs.Queued.{there, message, goes_on, shows, nothing_left}
 use Rattle.mps_log.proofs.queue.QueueIterator.next.Goals as goal

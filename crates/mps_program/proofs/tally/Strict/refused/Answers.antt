@@ -1,3 +1,4 @@
+-- `Strict::refused` meets its contract, by the lemmas of Passing.
 use Rattle.std.proofs.Common.{◌≡◌, true, false, sym, ◌∙◌, arith}
 use Rattle.mps_program.proofs.Passing.{named, none_ended, none_heard}
 use Rattle.mps_program.proofs.tally.Strict.refused.Goals as goal

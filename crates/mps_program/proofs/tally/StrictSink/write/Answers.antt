@@ -1,3 +1,4 @@
+-- `Strict::write` meets its clause `passed`, by the lemmas of Passing.
 use Rattle.std.proofs.Common.{◌≡◌, ◌≤◌, None, take, sym, ◌∙◌, arith, length-take}
 use Rattle.mps_lines.specs.Cuts.{cut}
 use Rattle.mps_program.specs.Heard.{first_refusal, wrapped}

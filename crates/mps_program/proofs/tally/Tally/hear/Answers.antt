@@ -1,3 +1,4 @@
+-- `Tally::hear` meets its contract, by the lemmas of Hearing.
 use Rattle.std.proofs.Common.{◌++◌, refl, sym, ◌∙◌, length}
 use Rattle.std.proofs.lemmas.Bool.{eqb-true}
 use Rattle.mps_program.proofs.Hearing.{heard_all}

@@ -1,3 +1,4 @@
+-- In each turn of the loop of `Tally::hear` what is heard with the rest is what was to be heard with all bytes.
 use Rattle.std.proofs.Common.{ℕ, List, length}
 use Rattle.mps_program.specs.Private.Heard.{IsHearing}
 use Rattle.mps_program.proofs.tally.Tally.hear.Given as goal

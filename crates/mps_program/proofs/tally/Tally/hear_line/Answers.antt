@@ -1,3 +1,4 @@
+-- `Tally::hear_line` meets its clause `heard`, by the lemmas of Hearing.
 use Rattle.std.proofs.Common.{◌≡◌, ◌+◌, ◌-◌, ◌<◌, ◌%◌, ◌^◌, drop, length, refl, sym, ap, ◌∙◌, arith, take_all, length-drop}
 use Rattle.mps_program.specs.declared.tally.Tally.{Tally}
 use Rattle.mps_program.proofs.Hearing.{hears_begun, hears_ended, more, more_begins, more_later, more_other}

@@ -1,3 +1,4 @@
+-- `Queues::nth` meets its contract and keeps what holds in each turn of its loop, by the lemmas of Moves.
 use Rattle.std.proofs.Common.{suc, slice_get, sym, ◌∙◌, arith}
 use Rattle.mps_queues.specs.Fronts.{waiting_keys}
 use Rattle.mps_queues.proofs.Moves.{first_left, next_waiting, none_waits}

@@ -1,3 +1,4 @@
+-- In each turn of the loop of `Queues::nth` the key is that of the waiting send at the counter.
 use Rattle.std.proofs.Common.{◌≡◌, Some, slice_get}
 use Rattle.mps_queues.specs.Fronts.{waiting_keys}
 use Rattle.mps_queues.proofs.fronts.Queues.nth.Given as goal

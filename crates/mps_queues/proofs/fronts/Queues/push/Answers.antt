@@ -1,3 +1,4 @@
+-- `Queues::push` meets its contract, by the lemmas of Moves.
 use Rattle.std.proofs.Common.{arith, ◌+◌, ◌∷◌, [], ◌++◌}
 use Rattle.mps_queues.proofs.Moves.{front_set, front_read, waiting_push, others_push}
 use Rattle.mps_queues.proofs.fronts.Queues.push.Goals as goal

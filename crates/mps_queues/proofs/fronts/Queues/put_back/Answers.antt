@@ -1,3 +1,4 @@
+-- `Queues::put_back` meets its contract, by the lemmas of Moves.
 use Rattle.std.proofs.Common.{arith, not}
 use Rattle.std.specs.Prelude.{◌==◌}
 use Rattle.std.specs.List.{filter}

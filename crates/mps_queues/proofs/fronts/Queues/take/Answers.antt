@@ -1,3 +1,4 @@
+-- `Queues::take` meets its clause `fronts`, by the lemmas of Moves.
 use Rattle.std.proofs.Common.{arith, ◌+◌, ◌∷◌, [], ◌++◌}
 use Rattle.mps_queues.proofs.Moves.{front_set, front_read, waiting_take, others_take}
 use Rattle.mps_queues.proofs.fronts.Queues.take.Goals as goal

@@ -1,3 +1,4 @@
+-- `Heard::reserve` meets its clause `lists`, by the lemmas of Lists.
 use Rattle.std.proofs.Common.{◌≡◌, ℕ, get_or, sym, ap, ◌∙◌, subst, ⊎_elim}
 use Rattle.std.proofs.lemmas.Bool.{cases_eq}
 use Rattle.mps_room.proofs.Lists.{map_alike}

@@ -1,3 +1,4 @@
+-- `Room::change` meets its clauses `answer` and `journal`, keeps the invariant of its type, and may call `keep`.
 use Rattle.std.proofs.Common.{◌≡◌, ◌<◌, ◌∷◌, [], ◌++◌, true, List, ℕ, Ok, length, map, sym, ap, ◌∙◌, subst, arith}
 use Rattle.std.proofs.lemmas.List.{length-map}
 use Rattle.std.specs.Prelude.{slice_index_or}

@@ -1,3 +1,4 @@
+-- `Room::news` may call `news`, by the lemmas of Telling.
 use Rattle.std.proofs.Common.{◌≡◌, List, ap, sym, ◌∙◌, arith, inl, inr}
 use Rattle.std.proofs.lemmas.Bool.{cases_lt}
 use Rattle.mps_room.specs.Private.Heard.{places}

@@ -1,3 +1,4 @@
+-- `Room::refused` meets its clause `refused`, by the lemmas of Refusing.
 use Rattle.std.proofs.Common.{◌≡◌, Some, None, sym, ap, ◌∙◌, arith}
 use Rattle.std.specs.Prelude.{length}
 use Rattle.mps_machine.specs.Faults.{fault}

@@ -1,3 +1,4 @@
+-- `Configuration::first_after` meets its contract and may call `get`, by the lemmas of AfterLastMark.
 use Rattle.std.proofs.Common.{◌≡◌, ℕ, Option, None, Some, sym, ap, ◌∙◌}
 use Rattle.std.specs.Option.{option_map, option_and_then}
 use Rattle.mps_base.specs.declared.action.Step.{Step}

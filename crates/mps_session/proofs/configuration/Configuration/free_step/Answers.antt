@@ -1,3 +1,4 @@
+-- `Configuration::free_step` meets its clauses `fault` and `free` and may call `get`, by the lemmas of FreeStep and OwnStep.
 use Rattle.std.proofs.Common.{◌≡◌, Some, refl, sym, ap, ◌∙◌}
 use Rattle.std.specs.Option.{option_map}
 use Rattle.mps_base.specs.declared.action.Step.{Step}

@@ -1,3 +1,4 @@
+-- `Configuration::own_step` meets its clauses `fault` and `own` and may call `get`, by the lemmas of OwnStep.
 use Rattle.std.proofs.Common.{◌≡◌, Some, refl, sym, ap, ◌∙◌}
 use Rattle.std.specs.Prelude.{◌==◌}
 use Rattle.std.specs.Option.{option_map}

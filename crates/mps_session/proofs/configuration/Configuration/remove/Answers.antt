@@ -1,3 +1,4 @@
+-- `Configuration::remove` meets its clause `left`, by the lemmas of HoldsAfterRemoval.
 use Rattle.std.proofs.Common.{not, ap, ◌∙◌}
 use Rattle.std.specs.Prelude.{◌==◌}
 use Rattle.std.specs.List.{filter}

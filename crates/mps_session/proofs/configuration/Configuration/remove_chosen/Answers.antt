@@ -1,3 +1,4 @@
+-- `Configuration::remove_chosen` meets its clause `history`, keeps what holds in each turn of its loop, and may call `remove`, by the lemmas of RemoveMarked.
 use Rattle.std.proofs.Common.{◌≡◌, ◌+◌, ℕ, List, Some, None, length, sym, subst, arith}
 use Rattle.mps_arena.specs.Keys.{last_key}
 use Rattle.mps_arena.specs.Neighbours.{CanGo}

@@ -1,3 +1,4 @@
+-- In each turn of the loop of `Configuration::remove_chosen` the steps that went are the newest of the chosen ones, and their numbers are told.
 use Rattle.std.proofs.Common.{◌+◌, ◌≤◌, length, vec_len}
 use Rattle.std.specs.Prelude.{vec_capacity}
 use Rattle.mps_links.specs.Marks.{marked_keys}

@@ -1,3 +1,4 @@
+-- `Configuration::take_back` meets its clauses `numbers`, `history`, `holds`, `unmarked` and `err` and may call `remove_chosen` and `with_copy`, by the lemmas of TypeAt and RemoveMarked.
 use Rattle.std.proofs.Common.{◌≡◌, ◌++◌, ◌<◌, ℕ, Bool, List, length, map, sym, ap, ◌∙◌, subst, arith}
 use mathlib.Core.Path.{ap₂}
 use Rattle.std.specs.Prelude.{reverse}

@@ -1,3 +1,4 @@
+-- `Configuration::unless_final` meets its clause `kept`, by the lemmas of RemoveMarked.
 use Rattle.std.proofs.Common.{◌≡◌, ℕ, List, map, ap, ◌∙◌}
 use mathlib.Core.Path.{ap₂}
 use Rattle.mps_history.specs.Dependence.{consequences}

@@ -1,3 +1,4 @@
+-- `Configuration::verdict` meets its clause `follows`, by the lemmas of CursorByPlace and NodeAfterAct.
 use Rattle.std.proofs.Common.{◌≡◌, ℕ, Option, Some, get_or, sym, ap, ◌∙◌, subst, arith}
 use Rattle.std.specs.Prelude.{IfOk}
 use Rattle.mps_base.specs.declared.action.Message.{Message}

@@ -1,3 +1,4 @@
+-- `Session::attempt` meets its clause `kind`.
 use Rattle.mps_session.proofs.session.Session.attempt.Goals as goal
 
 pub returns-in_ok-attempt_rollback-in-Rollback-clause-kind : goal.returns-in_ok-attempt_rollback-in-Rollback-clause-kind

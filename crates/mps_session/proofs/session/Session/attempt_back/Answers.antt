@@ -1,3 +1,4 @@
+-- `Session::attempt_back` meets its clause `back` and may call `take_back`, by the lemmas of AfterLastMark, RemoveMarked and NumbersOfSet.
 use Rattle.std.proofs.Common.{◌≡◌, List, Some, Result, Ok, Err, map, sym, ap, subst, ◌∙◌}
 use Rattle.std.specs.Prelude.{reverse, IfOk, OnOk}
 use Rattle.mps_base.specs.declared.action.Step.{Step}

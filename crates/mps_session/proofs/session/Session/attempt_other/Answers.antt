@@ -1,3 +1,4 @@
+-- `Session::attempt_other` meets its clause `served`, keeps the invariant of its type, and may call `allowed` and `act`, by the lemmas of RemoveMarked, ForwardAnswers and ForwardServed.
 use Rattle.std.proofs.Common.{None, map, refl, ap, ◌∙◌}
 use Rattle.mps_local.specs.Local.{plain}
 use Rattle.mps_links.specs.Marks.{marked_keys}

@@ -1,3 +1,4 @@
+-- `Session::attempt_receipt` meets its clauses `served`, `source` and `sent`, keeps the invariant of its type, and may call `allowed` and `act`.
 use Rattle.std.proofs.Common.{◌≡◌, map, refl, sym, ap, ◌∙◌, subst}
 use Rattle.mps_local.specs.Local.{plain}
 use Rattle.mps_links.specs.Marks.{marked_keys}

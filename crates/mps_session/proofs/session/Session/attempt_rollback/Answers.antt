@@ -1,3 +1,4 @@
+-- `Session::attempt_rollback` meets its clause `back`, by the lemmas of RemoveMarked.
 use Rattle.std.proofs.Common.{◌≡◌, Some, map, subst}
 use Rattle.std.proofs.lemmas.Result.{on_ok_weaker}
 use Rattle.mps_history.specs.Steps.{within}

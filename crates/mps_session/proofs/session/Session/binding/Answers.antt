@@ -1,3 +1,4 @@
+-- `Session::binding` meets its contract, by the lemmas of HoldsAfterAct and Slots.
 use Rattle.std.proofs.Common.{map, sym, ap, ◌∙◌}
 use Rattle.std.specs.Prelude.{slice_get}
 use Rattle.mps_local.specs.Local.{plain}

@@ -1,3 +1,4 @@
+-- `Session::expect` meets its clauses `head` and `known` and may call `expect`, by the lemmas of CursorByPlace, StepsNameRoles and ForwardAnswers.
 use Rattle.std.proofs.Common.{◌≡◌, ℕ, ◌<◌, arith, length, map, get_or, sym, ap, ◌∙◌, subst}
 use Rattle.mps_local.specs.Actions.{Head, Ends, Sends, Receives, Chooses, Picks, Begins, first_action, head}
 use Rattle.mps_local.specs.Local.{LocalType, plain}

@@ -1,3 +1,4 @@
+-- `Session::forward` meets its clauses `never_mismatch`, `newest`, `undone` and `stays`, by the lemmas of PassedOn and OneProtocol.
 use Rattle.std.proofs.Common.{◌≡◌, ◌≢◌, Result, Err, subst}
 use Rattle.mps_command.specs.Acts.{act_of}
 use Rattle.mps_command.specs.declared.answer.Done.{Done}

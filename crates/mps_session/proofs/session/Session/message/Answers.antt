@@ -1,3 +1,4 @@
+-- `Session::message` meets its contract, by the lemmas of HoldsAfterAct.
 use Rattle.std.proofs.Common.{List, map, sym, ap, ◌∙◌}
 use Rattle.std.specs.Prelude.{slice_get}
 use Rattle.mps_base.specs.declared.action.Message.{Message}

@@ -1,3 +1,4 @@
+-- `Session::moves` meets its clauses `moves` and `known`, by the lemmas of HoldsAfterAct, StepsNameRoles and MovedMessages.
 use Rattle.std.proofs.Common.{List, length, map, sym, ap, ◌∙◌, subst}
 use Rattle.std.specs.List.{AllByRecursion}
 use Rattle.mps_local.specs.Local.{plain}

@@ -1,3 +1,4 @@
+-- `Session::open` meets its clause `can` and keeps the invariant of its type, by the lemmas of HoldsAfterAct and TypeAt.
 use Rattle.std.proofs.Common.{◌≡◌, List, length, map, ap, subst, arith}
 use Rattle.mps_base.specs.RoleLists.{HasRoleCount}
 use Rattle.mps_local.specs.declared.Local.{Local}

@@ -1,3 +1,4 @@
+-- `Session::serve` meets its clause `served`.
 use Rattle.std.proofs.Common.{◌≡◌, Some, Result, refl, sym, ap, ◌∙◌, subst}
 use Rattle.mps_command.specs.Changes.{change_of, command_of}
 use Rattle.mps_command.specs.declared.answer.Answer.{Answer}

@@ -1,3 +1,4 @@
+-- `Session::serve_all` meets its clauses `undone`, `refused`, `refused_final`, `kept`, `removed`, `returned` and 1 more and keeps what holds in each turn of its loop, by the lemmas of ServeAll.
 use Rattle.std.proofs.Common.{List, [], ◌∷◌, ◌++◌, length, ap, sym, subst, ◌∙◌, arith, append_assoc, length-append}
 use Rattle.std.specs.Vec.Iter.{into_iter_items}
 use Rattle.mps_command.specs.declared.answer.Answer.{Answer}

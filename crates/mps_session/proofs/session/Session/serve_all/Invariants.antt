@@ -1,3 +1,4 @@
+-- In each turn of the loop of `Session::serve_all` the requests so far were served, each in the state that the one before it left.
 use Rattle.std.proofs.Common.{◌≡◌, ◌+◌, ◌≤◌, ◌++◌, length, vec_len}
 use Rattle.std.specs.Vec.{vec_capacity}
 use Rattle.std.specs.Vec.Iter.{into_iter_items}

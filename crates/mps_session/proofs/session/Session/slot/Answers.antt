@@ -1,3 +1,4 @@
+-- `Session::slot` meets its contract, by the lemmas of HoldsAfterAct and Slots.
 use Rattle.std.proofs.Common.{map, sym, ap, ◌∙◌}
 use Rattle.mps_history.specs.Slots.{value_in}
 use Rattle.mps_local.specs.Local.{plain}

@@ -1,3 +1,4 @@
+-- `Session::slots` meets its contract, by the lemmas of HoldsAfterAct and Slots.
 use Rattle.std.proofs.Common.{length, map, sym, ap, ◌∙◌}
 use Rattle.mps_local.specs.Local.{plain}
 use Rattle.mps_session.specs.Private.Configurations.{lists_of}

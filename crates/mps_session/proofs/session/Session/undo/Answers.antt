@@ -1,3 +1,4 @@
+-- `Session::undo` meets its clauses `state` and `back`, keeps the invariant of its type, and may call `remove`, by the lemmas of UndoServed.
 use Rattle.std.proofs.Common.{map}
 use Rattle.mps_local.specs.Local.{plain}
 use Rattle.mps_session.specs.Private.Configurations.{lists_of}

@@ -1,3 +1,4 @@
+-- `Session::waiting` meets its contract, by the lemmas of HoldsAfterAct.
 use Rattle.std.proofs.Common.{map, sym, ap, ◌∙◌}
 use Rattle.mps_local.specs.Local.{plain}
 use Rattle.mps_session.specs.Private.Configurations.{lists_of}

@@ -1,3 +1,4 @@
+-- `Session::would` meets its clause `never_mismatch`, by the lemmas of WhichRefusal.
 use Rattle.std.proofs.Common.{sym, ap, ◌∙◌, subst}
 use Rattle.std.specs.Result.{result_err}
 use Rattle.mps_machine.specs.Faults.{fault}

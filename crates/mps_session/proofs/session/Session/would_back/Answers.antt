@@ -1,3 +1,4 @@
+-- `Session::would_back` may call `unless_final`, by the lemmas of AfterLastMark.
 use Rattle.std.proofs.Common.{Some, sym, ap, ◌∙◌}
 use Rattle.mps_arena.specs.KeyedSteps.{steps}
 use Rattle.mps_session.proofs.AfterLastMark.{first_there}

@@ -1,3 +1,4 @@
+-- `Session::would_forward` meets its contract and may call `verdict`, by the lemmas of ForwardAnswers.
 use Rattle.std.proofs.Common.{Some, None, map, sym, ap, ◌∙◌}
 use Rattle.mps_command.specs.Acts.{act_of}
 use Rattle.mps_local.specs.Local.{plain}

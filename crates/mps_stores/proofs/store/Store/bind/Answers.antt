@@ -1,3 +1,4 @@
+-- `Store::bind` meets its clauses `replaced`, `bound` and `absent`, by the lemmas of Maps.
 use Rattle.std.proofs.Common.{arith}
 use Rattle.mps_stores.proofs.Maps.{insert_is_bound, lookup_is_value, value_there, bound_there}
 use Rattle.mps_stores.proofs.store.Store.bind.Goals as goal

@@ -1,3 +1,4 @@
+-- `Store::rebind` meets its clause `rebound`, by the lemmas of Maps.
 use Rattle.std.proofs.Common.{◌<◌, length, ◌∙◌, ap}
 use Rattle.indexmap.specs.IndexMap.{set_value_at}
 use Rattle.mps_stores.specs.Stores.{Keys}

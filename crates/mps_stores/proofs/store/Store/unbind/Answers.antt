@@ -1,3 +1,4 @@
+-- `Store::unbind` meets its contract, by the lemmas of Maps.
 use Rattle.std.proofs.Common.{◌≡◌, ℕ, Option, None, sym, ap, ◌∙◌}
 use mathlib.Core.Path.{ap₂}
 use Rattle.mps_history.specs.Slots.{unbound, value_in}

@@ -1,3 +1,4 @@
+-- `Stores::bind` meets its clause `follows`, by the lemmas of Bindings.
 use Rattle.std.proofs.Common.{arith, ◌≡◌, ℕ, ◌<◌, List, [], ◌∷◌, ◌++◌, length, Option, ◌∙◌, subst}
 use Rattle.std.specs.Prelude.{Result, Ok, Err, IfOk, OnOk, slice_set}
 use Rattle.mps_history.specs.Slots.{bound, value_in}

@@ -1,3 +1,4 @@
+-- `Stores::new` meets its clause `stores`.
 use Rattle.std.proofs.Common.{◌≡◌, ℕ, suc, [], ◌∷◌, ◌++◌, List, replicate, refl, ap, ◌∙◌}
 use Rattle.mps_arena.specs.KeyedSteps.{KeyedStep}
 use Rattle.mps_stores.specs.Stores.{store_at}

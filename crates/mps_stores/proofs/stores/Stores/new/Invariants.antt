@@ -1,3 +1,4 @@
+-- In each turn of the loop of `Stores::new` there is an empty store for each role so far.
 use Rattle.std.proofs.Common.{◌≡◌, [], replicate}
 use Rattle.mps_stores.proofs.stores.Stores.new.Given as goal
 

@@ -1,3 +1,4 @@
+-- `Stores::unbind` meets its clause `returns`, by the lemmas of Bindings.
 use Rattle.std.proofs.Common.{◌≡◌, ap, ◌∙◌}
 use Rattle.mps_history.specs.Slots.{unbound}
 use Rattle.mps_stores.specs.Stores.{store_at}

@@ -1,3 +1,4 @@
+-- `Draft::lay` and `Draft::lay_branches` meet their contracts and may call `lay_branches`, by the lemmas of Drafted.
 use Rattle.std.proofs.Common.{rules, ap}
 use Rattle.mps_local.specs.Local.{plain, plain_branches}
 use Rattle.mps_table.specs.Private.Drafts.{places_of, Lays, LaysBranches}

@@ -1,3 +1,4 @@
+-- `Draft::lay` and `Draft::lay_branches` end: at each call what is laid out weighs less.
 use Rattle.mps_local.specs.Private.Weights.{weight, branch_weight}
 use Rattle.mps_table.proofs.laying.Draft.+lay.Given as goal
 

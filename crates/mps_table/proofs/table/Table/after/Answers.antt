@@ -1,3 +1,4 @@
+-- `Table::after` meets its clause `follows`, by the lemmas of Standing.
 use Rattle.mps_table.proofs.Standing.{follows}
 use Rattle.mps_table.proofs.table.Table.after.Goals as goal
 

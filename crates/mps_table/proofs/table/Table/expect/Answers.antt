@@ -1,3 +1,4 @@
+-- `Table::expect` meets its clauses `begins` and `next`, by the lemmas of Standing.
 use Rattle.mps_table.proofs.Standing.{shown_begins, next_allowed}
 use Rattle.mps_table.specs.Expects.{head_of}
 use Rattle.mps_table.proofs.table.Table.expect.Goals as goal

@@ -1,3 +1,4 @@
+-- `Conversation::feed` meets its clauses `err`, `short` and `ok` and keeps what holds in each turn of its loop, by the lemmas of Calling, Conversing and Taking.
 use Rattle.std.proofs.Common.{◌≡◌, ℕ, ◌≤◌, List, ◌++◌, length, take, refl, ap, ◌∙◌, arith, length-take}
 use Rattle.mps_lines.specs.Lines.{front, most_kept}
 use Rattle.mps_wire.specs.Private.Endings.{begun_or}

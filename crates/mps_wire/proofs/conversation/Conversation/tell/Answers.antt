@@ -1,3 +1,4 @@
+-- `Conversation::tell` meets its clauses `err` and `ok`, by the lemmas of Calling and Conversing.
 use Rattle.std.proofs.Common.{◌∙◌, sym}
 use Rattle.mps_wire.proofs.Calling.{unwritten_line, broken_line, sent_line}
 use Rattle.mps_wire.proofs.Conversing.{on_err_of}

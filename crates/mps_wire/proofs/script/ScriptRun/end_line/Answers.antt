@@ -1,3 +1,4 @@
+-- `ScriptRun::end_line` meets its clause `answer`, by the lemmas of Answering.
 use Rattle.std.proofs.Common.{◌≡◌, ℕ, Bool, true, ◌==◌, List, [], ◌∷◌, ◌++◌, length, refl, sym, ◌∙◌, subst, arith}
 use Rattle.std.proofs.lemmas.Bool.Decides.{Decides-eqb}
 use Rattle.std.proofs.lemmas.Result.{on_ok_weaker}

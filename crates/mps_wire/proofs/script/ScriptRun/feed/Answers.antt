@@ -1,3 +1,4 @@
+-- `ScriptRun::feed` meets its clauses `short` and `answered` and keeps what holds in each turn of its loop, by the lemmas of Answering, Carrying and Feeding.
 use Rattle.std.proofs.Common.{◌≡◌, ℕ, ◌≤◌, List, [], ◌++◌, length, take, refl, ap, ◌∙◌, arith, length-take}
 use Rattle.std.proofs.lemmas.Result.{on_ok_weaker}
 use Rattle.mps_room.specs.declared.entry.Entry.{Entry}

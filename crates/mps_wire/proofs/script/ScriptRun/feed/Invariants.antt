@@ -1,3 +1,4 @@
+-- In each turn of the loop of `ScriptRun::feed` the lines before the rest were answered, and of the line that has begun a front of bounded length is kept.
 use Rattle.std.proofs.Common.{◌≡◌, ◌≤◌, [], length}
 use Rattle.mps_lines.specs.Lines.{most_kept}
 use Rattle.mps_wire.specs.Private.Places.{answering_of, place_of_run}

@@ -1,3 +1,4 @@
+-- `ScriptRun::finish` meets its clause `answered`, by the lemmas of Answering.
 use Rattle.std.proofs.Common.{◌≡◌, ℕ, Bool, false, ◌==◌, List, [], length}
 use Rattle.std.proofs.lemmas.Result.{on_ok_weaker}
 use Rattle.mps_lines.specs.Lines.{ended}

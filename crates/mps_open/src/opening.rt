@@ -1,0 +1,128 @@
+//! What the sessions of a protocol begin with.
+ghost use Rattle.std.specs.Prelude.{◌≡◌, map, None, IfOk, IfErr};
+ghost use Rattle.std.specs.Coded.{codes};
+ghost use Rattle.mps_fidelity.specs.Fidelity.{AreOfOneProtocol};
+ghost use Rattle.mps_global.specs.Global.{plain as global_type};
+ghost use Rattle.mps_global.specs.Faults.{fault_of};
+ghost use Rattle.mps_local.specs.Local.{plain};
+ghost use Rattle.mps_local.specs.Outcome.{AreNotAll, AreProjections};
+ghost use Rattle.mps_local.specs.Private.Codes.{coded_local};
+ghost use Rattle.mps_machine.specs.Machine.{initial};
+ghost use Rattle.mps_open.specs.Faults.{GivesNoOpening, GivesNoSession};
+ghost use Rattle.mps_open.specs.Texts.{AreTypesOf, IsProtocolText};
+
+use crate::fault::Fault;
+use mps_base::{RoleFault, Roles};
+use mps_global::{Protocol, check};
+use mps_local::{Local, ProjectFault, copy_all, project_all};
+use mps_session::{Session, open_types};
+use mps_text::read_protocol;
+use std::alloc::{AllocError, Global};
+
+/// A protocol without faults, each role of which has a type: what its sessions begin with.
+#[derive(Drop)]
+pub struct Opening {
+    pub protocol: Protocol,
+    /// The names of its roles.
+    pub roles: Roles,
+    /// The type of each role, in order.
+    pub types: Vec<Local>,
+    ghost faultless: { fault_of protocol.roles.items (global_type protocol.body) ≡ None },
+    ghost named: { roles ≡ protocol.roles.items },
+    ghost projected: { AreProjections protocol.roles.items (global_type protocol.body) (map plain types.items) } by { Prim.hlevel (codes, coded_local) },
+}
+
+// The roles of a protocol without faults.
+fn roles_of(alloc: Global, protocol: &Protocol) -> Result<Roles, AllocError>
+    requires { fault_of protocol.now.roles.items (global_type protocol.now.body) ≡ None }
+    ensures { IfOk result (λ roles. roles ≡ protocol.now.roles.items) }
+{
+    match Roles::of(alloc, protocol.roles.as_slice()) {
+        Ok(roles) => Ok(roles),
+        Err(RoleFault::Memory) => Err(AllocError),
+        Err(RoleFault::RoleCount) => unreachable!(),
+        Err(RoleFault::DoubleRole) => unreachable!(),
+    }
+}
+
+// Why a protocol without faults gives no types.
+fn unprojected(protocol: &Protocol, fault: ProjectFault) -> Fault
+    requires faultless { fault_of protocol.now.roles.items (global_type protocol.now.body) ≡ None }
+    requires fault { AreNotAll protocol.now.roles.items (global_type protocol.now.body) fault }
+    ensures { GivesNoOpening protocol.now.roles.items (global_type protocol.now.body) result }
+{
+    match fault {
+        ProjectFault::Memory => Fault::Memory,
+        ProjectFault::Unmergeable { role, choice } => Fault::Projection {
+            role,
+            name: protocol.roles[role.index()],
+            choice,
+        },
+    }
+}
+
+impl Opening {
+    /// What the sessions of the protocol begin with. The protocol is checked, and then projected to each of its roles.
+    pub fn of(alloc: Global, protocol: Protocol) -> Result<Opening, Fault>
+        ensures protocol { IfOk result (λ opening. opening.protocol ≡ protocol) }
+        ensures fault { IfErr result (GivesNoOpening protocol.roles.items (global_type protocol.body)) }
+    {
+        check(&protocol)?;
+        let types = match project_all(alloc, &protocol) {
+            Ok(types) => types,
+            Err(fault) => return Err(unprojected(&protocol, fault)),
+        };
+        let roles = roles_of(alloc, &protocol)?;
+        Ok(Opening {
+            protocol,
+            roles,
+            types,
+        })
+    }
+
+    /// The same of the protocol that the text spells.
+    pub fn of_text(alloc: Global, text: &[u8]) -> Result<Opening, Fault>
+        ensures read { IfOk result (λ opening.
+            IsProtocolText text.now opening.protocol.roles.items (global_type opening.protocol.body)) }
+        ensures types { IfOk result (λ opening. AreTypesOf text.now opening.roles (map plain opening.types.items)) }
+        ensures fault { IfErr result (GivesNoSession text.now) }
+    {
+        let protocol = read_protocol(alloc, text)?;
+        Opening::of(alloc, protocol)
+    }
+
+    /// A new session. No command is refused there with `Mismatch`, whatever the roles do.
+    pub fn session(&self, alloc: Global) -> Result<Session, AllocError>
+        ensures new { IfOk result (λ s. s ≡ record { types = map plain self.now.types.items; state = initial }) }
+        ensures of_one_protocol { IfOk result (λ s. AreOfOneProtocol s.types) }
+    {
+        open_types(alloc, copy_all(alloc, &self.types)?)
+    }
+
+    /// The names of the roles, and a new session: the only one that is opened.
+    pub fn into_session(self, alloc: Global) -> Result<(Roles, Session), AllocError>
+        ensures roles { IfOk result (λ r. r.0 ≡ self.roles) }
+        ensures new { IfOk result (λ r. r.1 ≡ record { types = map plain self.types.items; state = initial }) }
+        ensures of_one_protocol { IfOk result (λ r. AreOfOneProtocol r.1.types) }
+    {
+        let Opening {
+            protocol: _,
+            roles,
+            types,
+        } = self;
+        let session = open_types(alloc, types)?;
+        Ok((roles, session))
+    }
+}
+
+/// The roles of the protocol that the text spells, and a new session of it. No command is refused there with
+/// `Mismatch`, whatever the roles do.
+pub fn open_text(alloc: Global, text: &[u8]) -> Result<(Roles, Session), Fault>
+    ensures types { IfOk result (λ r. AreTypesOf text.now r.0 r.1.types) }
+    ensures new { IfOk result (λ r. r.1.state ≡ initial) }
+    ensures of_one_protocol { IfOk result (λ r. AreOfOneProtocol r.1.types) }
+    ensures fault { IfErr result (GivesNoSession text.now) }
+{
+    let opening = Opening::of_text(alloc, text)?;
+    Ok(opening.into_session(alloc)?)
+}

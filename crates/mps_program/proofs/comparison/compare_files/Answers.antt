@@ -1,9 +1,0 @@
-use Rattle.mps_global.specs.Global.{plain as global_type}
-use Rattle.mps_session.proofs.SameProjections.{one_projection}
-use Rattle.mps_program.proofs.comparison.compare_files.Goals as goal
-
--- a protocol has one list of projections
-pub compare_scripts-requires-clause-types : goal.compare_scripts-requires-clause-types
-compare_scripts-requires-clause-types g c =
-    let p = c.in_ok-protocol.protocol in
-    one_projection p.roles.items (global_type p.body) _ _ c.in_ok-second.ensures.types c.in_ok-roles.ensures.types
