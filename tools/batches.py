@@ -78,7 +78,7 @@ class Batches:
         wrong = [Wrong(edit, self.crate) for edit in edits]
         self.alone = [it.edit for it in wrong if not it.function]
         waiting = [it for it in wrong if it.function]
-        if len(waiting) < 2 or self.check([])[1] != "logic=proved":
+        if len(waiting) < 2:
             return set(), edits
         while waiting:
             waiting = [it for it in waiting if it not in (batch := self.chosen(waiting))] + self.tried(batch)
@@ -107,8 +107,13 @@ class Batches:
             if found := re.match(rf"fn {self.name}::(\S+): (.*)", line):
                 told[self.key(found[1])].append(found[2])
                 self.calls[self.key(found[1])] |= {self.key(it) for it in re.findall(rf"`{self.name}::(\S+?)`, which", line)}
-        gone = {found[1].rsplit("/", 1)[-1] for line in lines if (found := GONE.match(line))}
         names = {it.function for it in batch}
+        strays = {function for function, said in told.items() if any(map(is_refusal, said))} - names
+        if strays:
+            self.say(f"rt: must-fail {self.name}: {', '.join(sorted(strays))} isn't proved either, so each edit is tried alone")
+            self.alone += [it.edit for it in batch]
+            return []
+        gone = {found[1].rsplit("/", 1)[-1] for line in lines if (found := GONE.match(line))}
         left = []
         for it in batch:
             name = it.function.rsplit("::", 1)[-1]
