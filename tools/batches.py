@@ -15,7 +15,7 @@ FUNCTION = re.compile(r"(\s*)(?:pub(?:\(\w+\))? )?(?:const )?fn (\w+)")
 
 class Wrong:
     """A wrong body: the file of the edit, what it replaces in which sources, and the one function in which that stands,
-    as module::name, or nothing."""
+    as `function` names it, or nothing."""
 
     def __init__(self, edit, crate):
         self.edit, self.pairs = edit, []
@@ -39,7 +39,8 @@ class Wrong:
 
 
 def function(crate, file, old):
-    """The function in whose body the text stands, if it stands once in the file and there is such a function."""
+    """The function in whose body the text stands, if it stands once in the file and there is such a function: its name,
+    after that of its type and its trait, or of its module, as the end of the path by which a check names it."""
     path = crate / file
     if not file.startswith("src/") or not path.is_file():
         return None
@@ -53,14 +54,32 @@ def function(crate, file, old):
         if begins and len(begins[1]) < len(lines[at]) - len(lines[at].lstrip()):
             ends = [k for k in range(start, at) if lines[k] == begins[1] + "}"]
             body = next((k for k in range(start, at) if lines[k] == begins[1] + "{" or lines[k].endswith(" {")), at)
-            return "::".join([*modules(file), begins[2]]) if body < at and not ends else None
+            owner = owner_of(lines, start) if begins[1] else module(crate, file)
+            return f"{owner}::{begins[2]}" if body < at and not ends else None
     return None
 
 
-def modules(file):
-    """The names of the modules that a file of src/ is."""
-    parts = list(pathlib.PurePosixPath(file).with_suffix("").parts[1:])
-    return [it for it in parts if it not in ("lib", "main", "mod")]
+def module(crate, file):
+    """The name of the module that a file of src/ is."""
+    stem = pathlib.PurePosixPath(file).stem
+    return crate.name if stem in ("lib", "main") else stem
+
+
+def owner_of(lines, start):
+    """The type of the `impl` in which the line stands, and its trait, as one word."""
+    first = next((k for k in range(start, -1, -1) if lines[k].startswith("impl")), start)
+    last = next((k for k in range(first, start) if lines[k].endswith("{") or lines[k].startswith("where")), first)
+    head = " ".join(lines[first:last + 1]).removeprefix("impl").rstrip("{ ")
+    head = head.split(" where")[0].strip()
+    if head.startswith("<"):
+        depth = 0
+        for at, sign in enumerate(head):
+            depth += (sign == "<") - (sign == ">" and head[at - 1] != "-")
+            if depth == 0:
+                head = head[at + 1:].strip()
+                break
+    trait, found, name = head.rpartition(" for ")
+    return re.sub(r"<.*", "", name) + (re.sub(r"'\w+|\W", "", trait) if found else "")
 
 
 class Batches:
@@ -69,7 +88,6 @@ class Batches:
     def __init__(self, room, name, say):
         self.name, self.say = name, say
         self.crate = room / "crates" / name
-        self.known = {"::".join(modules(str(it.relative_to(self.crate)))) for it in (self.crate / "src").rglob("*.rt")}
         self.calls = collections.defaultdict(set)
         self.refused, self.alone = set(), []
 
@@ -104,11 +122,12 @@ class Batches:
             return []
         told = collections.defaultdict(list)
         for line in lines:
-            if found := re.match(rf"fn {self.name}::(\S+): (.*)", line):
-                told[self.key(found[1])].append(found[2])
-                self.calls[self.key(found[1])] |= {self.key(it) for it in re.findall(rf"`{self.name}::(\S+?)`, which", line)}
+            if found := re.match(rf"fn ({self.name}::\S+): (.*)", line):
+                told[end(found[1])].append(found[2])
+                self.calls[end(found[1])] |= {end(it) for it in re.findall(rf"`({self.name}::\S+?)`", found[2].partition("it calls")[2])}
         names = {it.function for it in batch}
-        strays = {function for function, said in told.items() if any(map(is_refusal, said))} - names
+        # functions that call each other have one proof, in a folder whose name begins with +
+        strays = {it for it, said in told.items() if any(is_refusal(why) and "/+" not in why for why in said)} - names
         if strays:
             self.say(f"rt: must-fail {self.name}: {', '.join(sorted(strays))} isn't proved either, so each edit is tried alone")
             self.alone += [it.edit for it in batch]
@@ -136,12 +155,6 @@ class Batches:
             new = set().union(*(self.calls.get(it, set()) for it in new)) - found
         return found - {function}
 
-    def key(self, path):
-        """The module and the name of a function that a check names, without the type that it belongs to."""
-        parts = path.split("::")
-        module = next((k for k in range(len(parts) - 1, 0, -1) if "::".join(parts[:k]) in self.known), 0)
-        return "::".join([*parts[:module], parts[-1]])
-
     def check(self, batch):
         """What rt says of the crate with these wrong bodies, line by line, and the first word of its verdict."""
         files = {self.crate / file for it in batch for file, _, _ in it.pairs}
@@ -154,6 +167,11 @@ class Batches:
             file.write_bytes(content)
         lines = ran.stdout.splitlines()
         return lines, next((line.split()[0] for line in reversed(lines) if line.startswith("logic=")), "")
+
+
+def end(path):
+    """The end of the path by which a check names a function: its name, and the name before it."""
+    return "::".join(path.split("::")[-2:])
 
 
 def is_refusal(line):
