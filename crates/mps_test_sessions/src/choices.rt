@@ -1,21 +1,13 @@
 //! mps_session: sessions with loops and choices, which types open one, and 100,000 numbers.
 use crate::steps::Line::{Asks, Count, Keeps, Moves, Step, Undoes, Waits};
-use crate::steps::{A, Ask, B, C, Line, Opening, answer, name, opened, opens_so, play, role_of};
+use crate::steps::{A, Ask, B, C, Line, Opening, answer, opened, opens_so, play, role_of};
 use crate::tables::are_labels;
-use mps_base::{Name, Role, Sort, Value, VarName};
+use crate::words::{more, name, variable};
+use mps_base::{Name, Role, Sort, Value};
 use mps_local::{Branches, Local};
 use mps_session::*;
 use std::alloc::AllocGlobal;
 use std::process::Abort;
-
-fn variable(rt: &impl Abort, text: &str) -> VarName {
-    VarName::read(text.as_bytes()).expect(rt, "a variable")
-}
-
-// The branch of the label in front of the others.
-fn more(rt: &(impl Abort + AllocGlobal), label: &str, next: Local, others: Branches) -> Branches {
-    Branches::more(rt.alloc(), name(rt, label), next, others).expect(rt, "memory")
-}
 
 // The branches of two labels, each with the type after it.
 fn either(

@@ -4,7 +4,8 @@ ghost use Rattle.mps_global.specs.Global.{plain};
 ghost use Rattle.mps_local.specs.Outcome.{AreProjections};
 
 use crate::open_protocols::{choice, int, protocol};
-use crate::steps::{A, Ask, B, C, command, name, role_of};
+use crate::steps::{A, Ask, B, C, command, role_of};
+use crate::words::name;
 use mps_base::{Sort, StepId};
 use mps_command::{Answer, Change, Refusal, StepIds};
 use mps_global::{Global, Protocol};

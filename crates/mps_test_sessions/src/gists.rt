@@ -2,7 +2,8 @@
 ghost use Rattle.std.specs.Prelude.{IsSome};
 ghost use Rattle.mps_command.specs.Changes.{change_of};
 
-use crate::steps::{A, A_TO_B_TO_C, Ask, B, C, command, name, opened, types};
+use crate::steps::{A, A_TO_B_TO_C, Ask, B, C, command, opened, types};
+use crate::words::name;
 use mps_base::{Role, StepId};
 use mps_command::{Command, Refusal};
 use mps_session::*;

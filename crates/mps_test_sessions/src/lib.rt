@@ -29,3 +29,5 @@ mod tables;
 mod undos;
 #[cfg(test)]
 mod verdicts;
+#[cfg(test)]
+mod words;

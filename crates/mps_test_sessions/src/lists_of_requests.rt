@@ -4,8 +4,9 @@ ghost use Rattle.std.specs.List.{AllByRecursion};
 
 use crate::steps::Line::{Count, Keeps, Moves, Waits};
 use crate::steps::{
-    A, A_TO_B_TO_C, Ask, B, C, Line, command, gone, name, opened, play, role_of, text, told, types,
+    A, A_TO_B_TO_C, Ask, B, C, Line, command, gone, opened, play, role_of, text, told, types,
 };
+use crate::words::name;
 use mps_base::{Name, Role, StepId};
 use mps_command::{Answer, Change, Forward};
 use mps_session::*;

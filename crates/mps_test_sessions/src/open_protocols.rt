@@ -1,15 +1,12 @@
 //! mps_session: a protocol that has no fault, and types for all roles, gives a session; else its first fault is named.
 use crate::steps::Line::Asks;
-use crate::steps::{A, Ask, B, C, Line, name, play};
-use mps_base::{Name, Role, Sort, VarName};
+use crate::steps::{A, Ask, B, C, Line, play};
+use crate::words::{name, variable};
+use mps_base::{Name, Role, Sort};
 use mps_global::{Branches, Global, GlobalFault, Protocol};
 use mps_session::*;
 use std::alloc::AllocGlobal;
 use std::process::Abort;
-
-fn variable(rt: &impl Abort, text: &str) -> VarName {
-    VarName::read(text.as_bytes()).expect(rt, "a variable")
-}
 
 // One role gives another an int.
 pub(super) fn int(rt: &(impl Abort + AllocGlobal), from: &str, to: &str, next: Global) -> Global {

@@ -1,6 +1,7 @@
 //! mps_session: a step is accepted or refused by name, moves its message, binds its slot, and shows in the session.
 ghost use Rattle.std.specs.Prelude.{◌<◌, length};
 
+use crate::words::{name, value};
 use mps_base::{Act, Message, Name, Role, Sort, StepId, Value};
 use mps_local::Local;
 use mps_session::*;
@@ -14,10 +15,6 @@ pub(super) const B: u8 = 1;
 
 pub(super) const C: u8 = 2;
 
-pub(super) fn name(rt: &impl Abort, text: &str) -> Name {
-    Name::read(text.as_bytes()).expect(rt, "a name")
-}
-
 // What a role asks for, with the peer's place.
 #[derive(Clone, Copy)]
 pub(super) enum Ask {
@@ -27,11 +24,6 @@ pub(super) enum Ask {
     Pick(u8),
     Mark(&'static str),
     Commit,
-}
-
-// The value that is spelled so.
-fn value(rt: &(impl Abort + AllocGlobal), text: &str) -> Value {
-    Value::read(rt.alloc(), text.as_bytes()).expect(rt, "a value")
 }
 
 // The command that is asked for.

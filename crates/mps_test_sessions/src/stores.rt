@@ -1,16 +1,12 @@
 //! mps_stores: names are bound in order, and a binding that is taken back gives the one before it.
 ghost use Rattle.std.specs.Prelude.{◌<◌};
 
+use crate::words::name;
 use mps_arena::{Arena, Before, Key};
-use mps_base::{Act, Name, Role};
+use mps_base::{Act, Role};
 use mps_stores::*;
 use std::alloc::AllocGlobal;
 use std::process::Abort;
-
-// The name of these letters.
-fn name(rt: &impl Abort, letters: &str) -> Name {
-    Name::read(letters.as_bytes()).expect(rt, "a name")
-}
 
 // The key of one step more.
 fn next_key(rt: &impl Abort, arena: &mut Arena) -> Key {

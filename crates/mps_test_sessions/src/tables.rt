@@ -2,8 +2,9 @@
 ghost use Rattle.std.specs.Prelude.{IfSome};
 ghost use Rattle.mps_table.specs.Graph.{IsNode};
 
+use crate::words::{more, variable};
 use mps_base::Sort::{self, Bool, Int, Text};
-use mps_base::{Name, Role, VarName};
+use mps_base::{Name, Role};
 use mps_local::{Branches, Local, LocalFault};
 use mps_table::{Expect, Node, Table, compile};
 use std::alloc::AllocGlobal;
@@ -37,21 +38,6 @@ enum Part {
 
 // A label, the node after it, and the variable that stands then, or `end`.
 type Arm = (&'static str, Part, &'static str);
-
-// The name of these letters.
-fn name(rt: &impl Abort, letters: &str) -> Name {
-    Name::read(letters.as_bytes()).expect(rt, "a name")
-}
-
-// The variable of these letters.
-fn variable(rt: &impl Abort, letters: &str) -> VarName {
-    VarName::read(letters.as_bytes()).expect(rt, "a variable")
-}
-
-// The branch of the label and then the others.
-fn more(rt: &(impl Abort + AllocGlobal), label: &str, next: Local, others: Branches) -> Branches {
-    Branches::more(rt.alloc(), name(rt, label), next, others).expect(rt, "memory")
-}
 
 // The node in front of `next`.
 fn in_front(rt: &(impl Abort + AllocGlobal), part: &Part, next: Local) -> Local {

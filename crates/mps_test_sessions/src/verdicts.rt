@@ -2,7 +2,8 @@
 ghost use Rattle.std.specs.Prelude.{IfOk};
 ghost use Rattle.mps_table.specs.Graph.{IsNode};
 
-use mps_base::{Message, Name, Role, Sort, Value, VarName};
+use crate::words::{name, value, variable};
+use mps_base::{Message, Name, Role, Sort, Value};
 use mps_local::{Branches, Local};
 use mps_monitor::*;
 use mps_table::{Expect, Node, Table, compile};
@@ -49,11 +50,6 @@ const MORE: Option<Said> = Some(Said::Label("more"));
 
 const OKAY: Option<Said> = Some(Said::Label("okay"));
 
-// The name of these letters.
-fn name(rt: &impl Abort, text: &str) -> Name {
-    Name::read(text.as_bytes()).expect(rt, "a name")
-}
-
 // The names of these letters.
 fn names(rt: &(impl Abort + AllocGlobal), texts: &[&str]) -> Vec<Name> {
     let mut names = Vec::new(rt.alloc());
@@ -61,11 +57,6 @@ fn names(rt: &(impl Abort + AllocGlobal), texts: &[&str]) -> Vec<Name> {
         names.push(name(rt, text)).expect(rt, "memory");
     }
     names
-}
-
-// The value that is spelled so.
-fn value(rt: &(impl Abort + AllocGlobal), text: &str) -> Value {
-    Value::read(rt.alloc(), text.as_bytes()).expect(rt, "a value")
 }
 
 // The command that is asked for.
@@ -455,15 +446,10 @@ fn goes(rt: &(impl Abort + AllocGlobal), t: &Local, rows: &[Asked]) {
 // the end.
 type Arm = (&'static str, Kind, bool);
 
-// The loop's variable.
-fn variable(rt: &impl Abort) -> VarName {
-    VarName::read(b"X").expect(rt, "a variable")
-}
-
 // The type after the label.
 fn after_label(rt: &(impl Abort + AllocGlobal), arm: &Arm) -> Local {
     let next = if arm.2 {
-        Local::Var(variable(rt))
+        Local::Var(variable(rt, "X"))
     } else {
         Local::End
     };
@@ -571,7 +557,7 @@ const ROUNDS: &[Asked] = &[
 // `rec X . choose b { ok : send b int . X, no : recv b bool . end, more : X }`.
 #[test]
 fn goes_on_in_a_loop(rt: HostRuntime) {
-    let turns = Local::rec(rt.alloc(), variable(&rt), chooses(&rt, B, IN_TURNS));
+    let turns = Local::rec(rt.alloc(), variable(&rt, "X"), chooses(&rt, B, IN_TURNS));
     goes(&rt, &turns.expect(&rt, "memory"), ROUNDS);
 }
 

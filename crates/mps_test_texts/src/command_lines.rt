@@ -2,22 +2,13 @@
 ghost use Rattle.std.specs.Prelude.{◌≡◌, IfOk};
 ghost use Rattle.mps_line.specs.Commands.{NamesRolesOf};
 
-use mps_base::{Name, Role, Roles, Value};
+use crate::words::{name, three_roles, two_roles};
+use mps_base::{Role, Roles, Value};
 use mps_command::{Command, Forward};
 use mps_line::laws::{one_command, one_numbered};
 use mps_line::{LineFault, append_command, read_command, read_numbered, read_script_line};
 use std::alloc::{AllocGlobal, Global};
 use std::process::Abort;
-
-fn name(rt: &impl Abort, text: &str) -> Name {
-    Name::read(text.as_bytes()).expect(rt, "a name")
-}
-
-// The roles a, b and c.
-fn roles(rt: &(impl Abort + AllocGlobal)) -> Roles {
-    let names = [name(rt, "a"), name(rt, "b"), name(rt, "c")];
-    Roles::of(rt.alloc(), &names).expect(rt, "roles")
-}
 
 // A word and bytes.
 fn worded(rt: &(impl Abort + AllocGlobal), word: &str, bytes: &[u8]) -> String {
@@ -113,7 +104,7 @@ fn is_read(rt: &(impl Abort + AllocGlobal), roles: &Roles, row: &(&str, usize, &
 
 #[test]
 fn good_lines(rt: HostRuntime) {
-    let roles = roles(&rt);
+    let roles = three_roles(&rt);
     for row in SCRIPT_LINES {
         assert!(rt; is_read(&rt, &roles, row), "{}", row.0);
     }
@@ -189,7 +180,7 @@ fn is_bad_line(alloc: Global, roles: &Roles, line: &str) -> bool {
 
 #[test]
 fn bad_lines(rt: HostRuntime) {
-    let roles = roles(&rt);
+    let roles = three_roles(&rt);
     for line in BAD_LINES {
         assert!(rt; is_bad_line(rt.alloc(), &roles, line), "{line}");
     }
@@ -256,7 +247,7 @@ fn is_command(rt: &(impl Abort + AllocGlobal), roles: &Roles, line: &str, text: 
 
 #[test]
 fn commands_alone(rt: HostRuntime) {
-    let roles = roles(&rt);
+    let roles = three_roles(&rt);
     for (line, text) in COMMANDS {
         assert!(rt; is_command(&rt, &roles, line, text), "{line}");
     }
@@ -346,18 +337,13 @@ fn is_bad_command(alloc: Global, roles: &Roles, line: &str) -> bool {
 
 #[test]
 fn bad_commands(rt: HostRuntime) {
-    let roles = roles(&rt);
+    let roles = three_roles(&rt);
     for line in BAD_COMMANDS {
         assert!(rt; is_bad_command(rt.alloc(), &roles, line), "{line}");
     }
 }
 
 // ---- lines of a conversation
-
-// The roles a and b.
-fn two_roles(rt: &(impl Abort + AllocGlobal)) -> Roles {
-    Roles::of(rt.alloc(), &[name(rt, "a"), name(rt, "b")]).expect(rt, "roles")
-}
 
 // A line, its number, if it has one, and its command.
 const NUMBERED: &[(&str, Option<u64>, &str)] = &[

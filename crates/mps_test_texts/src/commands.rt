@@ -1,18 +1,10 @@
 //! mps_command: a copy of a command, a change, an answer or a list of numbers is equal to it.
-use mps_base::{Name, Role, Roles, StepId};
+use crate::words::{name, two_roles};
+use mps_base::{Role, Roles, StepId};
 use mps_command::*;
 use mps_line::{Reply, append_answer, read_answer, read_command};
 use std::alloc::AllocGlobal;
 use std::process::Abort;
-
-fn name(rt: &impl Abort, text: &str) -> Name {
-    Name::read(text.as_bytes()).expect(rt, "a name")
-}
-
-// The roles a and b.
-fn roles(rt: &(impl Abort + AllocGlobal)) -> Roles {
-    Roles::of(rt.alloc(), &[name(rt, "a"), name(rt, "b")]).expect(rt, "roles")
-}
 
 // A line for each command.
 const COMMANDS: &[&str] = &[
@@ -49,7 +41,7 @@ fn read(rt: &(impl Abort + AllocGlobal), roles: &Roles, line: &str) -> Command {
 
 #[test]
 fn copies_commands(rt: HostRuntime) {
-    let roles = roles(&rt);
+    let roles = two_roles(&rt);
     for line in COMMANDS {
         assert!(rt; is_copied(&rt, &read(&rt, &roles, line)), "{line}");
     }

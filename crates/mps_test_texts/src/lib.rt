@@ -23,4 +23,6 @@ mod read_replies;
 #[cfg(test)]
 mod values;
 #[cfg(test)]
+mod words;
+#[cfg(test)]
 mod written_replies;

@@ -1,5 +1,5 @@
 //! mps_local: a local type's first fault is found, the limits first, in types of any size.
-use crate::projections::{name, variable};
+use crate::words::{name, variable};
 use mps_base::{Role, Sort};
 use mps_local::{
     Branches, Local, LocalFault, first_fault, local_fault_laws, local_size_laws,

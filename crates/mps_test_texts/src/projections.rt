@@ -3,8 +3,9 @@ ghost use Rattle.std.specs.Prelude.{◌≡◌, ◌<◌, IfOk, length};
 ghost use Rattle.mps_local.specs.Local.{plain, plain_branches};
 ghost use Rattle.mps_local.specs.Shape.{AllPeers, AllBranchPeers};
 
+use crate::words::{name, variable};
 use mps_base::Sort::{self, Bool, Int, Text};
-use mps_base::{Name, Role, Roles, VarName};
+use mps_base::{Name, Role, Roles};
 use mps_global::{Branches, Global, Protocol, check};
 use mps_local::{Local, ProjectFault, project, project_all, projection_laws, write_local};
 use std::alloc::AllocGlobal;
@@ -18,16 +19,6 @@ pub(crate) enum Part<'a> {
     Sent(&'a str, &'a str, Sort),
     // the last of the labels goes on, each other one ends
     Choice(&'a str, &'a str, &'a [&'a str]),
-}
-
-// The name of these letters.
-pub(crate) fn name(rt: &impl Abort, letters: &str) -> Name {
-    Name::read(letters.as_bytes()).expect(rt, "a name")
-}
-
-// The variable of these letters.
-pub(crate) fn variable(rt: &impl Abort, letters: &str) -> VarName {
-    VarName::read(letters.as_bytes()).expect(rt, "a variable")
 }
 
 // The branch of these letters, and then the others.

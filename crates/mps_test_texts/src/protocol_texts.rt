@@ -1,5 +1,6 @@
 //! mps_text: a text is read as its protocol, or its first fault is named with its byte; what is written is read again.
-use mps_base::{Name, Sort, VarName};
+use crate::words::name;
+use mps_base::{Sort, VarName};
 use mps_global::{Branches, Global, Protocol, check};
 use mps_text::{
     MAX_TEXT_BYTES, TextFault, TextKind, first_tokens, one_fault, one_protocol, protocol_or_fault,
@@ -118,15 +119,11 @@ fn after_message<'a>(node: &'a Global, from: &[u8], to: &[u8], of: Sort) -> Opti
     }
 }
 
-fn name(rt: &impl Abort, letters: &[u8]) -> Name {
-    Name::read(letters).expect(rt, "a name")
-}
-
 #[test]
 fn reads_messages(rt: HostRuntime) {
     let protocol = protocol(&rt, b"roles a b c ; a -> b : int . b -> c : text . end");
     assert!(rt; check(&protocol).is_ok());
-    let roles = [name(&rt, b"a"), name(&rt, b"b"), name(&rt, b"c")];
+    let roles = [name(&rt, "a"), name(&rt, "b"), name(&rt, "c")];
     assert!(rt; protocol.roles.as_slice() == roles.as_slice());
     let second = after_message(&protocol.body, b"a", b"b", Sort::Int);
     let last = after_message(second.expect(&rt, "a message"), b"b", b"c", Sort::Text);
@@ -377,7 +374,7 @@ fn writes_what_it_read(rt: HostRuntime) {
 
 // So many messages, and then a choice without branches.
 fn deep(rt: &(impl Abort + AllocGlobal), count: usize) -> Global {
-    let (sender, receiver) = (name(rt, b"a"), name(rt, b"b"));
+    let (sender, receiver) = (name(rt, "a"), name(rt, "b"));
     let mut body = Global::Choice {
         sender,
         receiver,
@@ -393,7 +390,7 @@ fn deep(rt: &(impl Abort + AllocGlobal), count: usize) -> Global {
 // far deeper than a text may be, and a choice without branches
 #[test]
 fn writes_any_tree(rt: HostRuntime) {
-    let roles = vec![in rt.alloc(); name(&rt, b"a"), name(&rt, b"b")].expect(&rt, "memory");
+    let roles = vec![in rt.alloc(); name(&rt, "a"), name(&rt, "b")].expect(&rt, "memory");
     let protocol = Protocol {
         roles,
         body: deep(&rt, 20000),

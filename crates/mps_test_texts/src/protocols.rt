@@ -1,5 +1,6 @@
 //! mps_global: `check` names a protocol's first fault, and deep and wide trees are dropped.
-use crate::projections::{Part, branches, chain, in_front, more, name, protocol};
+use crate::projections::{Part, branches, chain, in_front, more, protocol};
+use crate::words::name;
 use mps_base::Sort::Int;
 use mps_global::{Branches, Global, GlobalFault, check, protocol_laws, size_laws};
 use std::alloc::AllocGlobal;

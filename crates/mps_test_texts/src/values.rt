@@ -1,4 +1,5 @@
 //! mps_base: names, variables, values, numbers and lists of roles are read exactly where they are spelled so.
+use crate::words::name;
 use mps_base::*;
 use std::alloc::{AllocGlobal, Global};
 use std::process::Abort;
@@ -6,11 +7,6 @@ use std::process::Abort;
 // The value that the bytes spell.
 fn value(rt: &(impl Abort + AllocGlobal), bytes: &[u8]) -> Value {
     Value::read(rt.alloc(), bytes).expect(rt, "a value")
-}
-
-// The name of these letters.
-fn name(rt: &impl Abort, text: &str) -> Name {
-    Name::read(text.as_bytes()).expect(rt, "a name")
 }
 
 // Whether the value is spelled so.
