@@ -1,5 +1,5 @@
-//! Tests of names, values, commands, devices, lines, replies, protocols and local types, over what their crates make
-//! public.
+//! Tests of names, values, commands, devices, lines, seals, replies, protocols and local types, over what their crates
+//! make public.
 #![tactic(auto)]
 
 #[cfg(test)]
@@ -20,6 +20,8 @@ mod protocol_texts;
 mod protocols;
 #[cfg(test)]
 mod read_replies;
+#[cfg(test)]
+mod seals;
 #[cfg(test)]
 mod values;
 #[cfg(test)]
