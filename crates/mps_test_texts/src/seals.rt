@@ -52,10 +52,10 @@ fn reads_what_was_sealed(rt: HostRuntime) {
 
 // Whether none of the lines that differ from this one in one bit of that byte is read.
 fn sees_each_flip(rt: &(impl Abort + AllocGlobal), seal: Seal, sealed: &[u8], at: usize) -> bool {
-    let mut bytes = Vec::from_slice(rt.alloc(), sealed).expect(rt, "memory");
     for bit in 0..8u32 {
+        let mut bytes = Vec::from_slice(rt.alloc(), sealed).expect(rt, "memory");
         if let Some(byte) = bytes.get_mut(at) {
-            *byte = sealed[at] ^ (1 << bit);
+            *byte ^= 1 << bit;
         }
         if seal.read(bytes.as_slice()).is_some() {
             return false;
