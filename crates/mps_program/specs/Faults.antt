@@ -2,7 +2,7 @@
 use Rattle.std.specs.Prelude.{◌+◌, ◌⊎◌, ⊤, ◌≡◌, ℕ, Bool, true, false, List, Option, None, Some, Result, Ok, Err, codes, ◌++◌}
 use Rattle.std.specs.String.{string_bytes}
 use Rattle.std.specs.declared.io.Error.{Error}
-use Rattle.mps_base.specs.Numbers.{IsNumberText}
+use Rattle.std.specs.Fmt.{decimal}
 use Rattle.mps_global.specs.declared.faults.GlobalFault.{GlobalFault}
 use Rattle.mps_global.specs.declared.faults.GlobalFault.TheVariants.{RoleCount, DoubleRole, TooManyNodes as ManyNodes}
 use Rattle.mps_global.specs.declared.faults.GlobalFault.TheVariants.{TooDeep as Deep, UnknownRole, SelfMessage}
@@ -47,35 +47,25 @@ protocol_word Unbound = codes "unbound"
 protocol_word Shadowed = codes "shadowed"
 protocol_word Unguarded = codes "unguarded"
 
--- the line that tells of the journal of a session
-abbrev pub IsJournalLine : List ℕ → ℕ → Type 0
-IsJournalLine line session =
-    (number : List ℕ) × (line ≡ codes "refused journal " ++ number) × IsNumberText number session
-
 -- the line that tells the fault
-abbrev pub IsFaultLine : List ℕ → ToolFault → Type 0
-IsFaultLine line (Usage text) = line ≡ string_bytes text
-IsFaultLine line (File name why) = line ≡ codes "refused file " ++ name.now
-IsFaultLine line (Text at kind) =
-    (number : List ℕ) × (line ≡ codes "refused text " ++ text_word kind ++ codes " " ++ number) × IsNumberText number at
-IsFaultLine line (Protocol fault) = line ≡ codes "refused protocol " ++ protocol_word fault
-IsFaultLine line (Projection role choice) =
-    (number : List ℕ) × (line ≡ codes "refused projection " ++ role ++ codes " " ++ number) × IsNumberText number choice
-IsFaultLine line Open = line ≡ codes "refused open"
-IsFaultLine line (Read why) = line ≡ codes "refused read"
-IsFaultLine line Write = line ≡ codes "refused write"
-IsFaultLine line Turns = line ≡ codes "refused turns"
-IsFaultLine line (Bind why) = line ≡ codes "refused bind"
-IsFaultLine line Accept = line ≡ codes "refused accept"
-IsFaultLine line (Lost session) =
-    (number : List ℕ) × (line ≡ codes "refused lost " ++ number) × IsNumberText number session
-IsFaultLine line (JournalFile session why) = IsJournalLine line session
-IsFaultLine line (JournalLine session at) =
-    (number : List ℕ) × (place : List ℕ) × (line ≡ codes "refused journal " ++ number ++ codes " " ++ place)
-    × IsNumberText number session × IsNumberText place at
-IsFaultLine line JournalProtocol = line ≡ codes "refused journal protocol"
-IsFaultLine line (JournalLost session) = IsJournalLine line session
-IsFaultLine line Memory = line ≡ codes "refused memory"
+abbrev pub fault_text : ToolFault → List ℕ
+fault_text (Usage text) = string_bytes text
+fault_text (File name why) = codes "refused file " ++ name.now
+fault_text (Text at kind) = codes "refused text " ++ text_word kind ++ codes " " ++ decimal at
+fault_text (Protocol fault) = codes "refused protocol " ++ protocol_word fault
+fault_text (Projection role choice) = codes "refused projection " ++ role ++ codes " " ++ decimal choice
+fault_text Open = codes "refused open"
+fault_text (Read why) = codes "refused read"
+fault_text Write = codes "refused write"
+fault_text Turns = codes "refused turns"
+fault_text (Bind why) = codes "refused bind"
+fault_text Accept = codes "refused accept"
+fault_text (Lost session) = codes "refused lost " ++ decimal session
+fault_text (JournalFile session why) = codes "refused journal " ++ decimal session
+fault_text (JournalLine session at) = codes "refused journal " ++ decimal session ++ codes " " ++ decimal at
+fault_text JournalProtocol = codes "refused journal protocol"
+fault_text (JournalLost session) = codes "refused journal " ++ decimal session
+fault_text Memory = codes "refused memory"
 
 -- 2 for the words, the files and the port, 3 for the protocol and what a journal has, 4 for a device, a lost session
 -- and memory

@@ -1,102 +1,84 @@
 //! What the program says when it can't go on.
-ghost use Rattle.std.specs.Prelude.{◌≡◌, ◌≢◌, Ok, OnOk, IfOk, IfErr, false};
-ghost use Rattle.mps_base.specs.Appends.{AppendsSuch};
+ghost use Rattle.std.specs.Prelude.{◌≡◌, ◌≢◌, Ok, Some, IfOk, IfErr, false};
 ghost use Rattle.mps_program.specs.Check.{of_opening};
-ghost use Rattle.mps_program.specs.Faults.{IsFaultLine, IsSameButForReads, as_told, of_script, of_use, protocol_word, status_of};
+ghost use Rattle.mps_program.specs.Faults.{IsSameButForReads, as_told, fault_text, of_script, of_use, protocol_word, status_of};
 ghost use Rattle.mps_program.specs.Faults.{text_word, told_with, without};
 ghost use Rattle.mps_program.specs.declared.faults.ToolFault.TheVariants.{Memory as OutOfMemory, Open as NoSession};
 
-use mps_base::{Name, write_number};
+use mps_base::Name;
 use mps_global::GlobalFault;
 use mps_open::Fault;
 use mps_text::TextKind;
 use mps_wire::script::ReplayFault;
 use mps_words::UseFault;
 use std::alloc::{AllocError, AllocFailed, Global};
-use std::io;
-use thiserror::Error;
+use std::error::Error;
+use std::{fmt, io};
 
-/// Why the program didn't do what it was told. It is displayed as its line, the one that `fault_line` gives.
-#[derive(Debug, Drop, Error)]
+/// Why the program didn't do what it was told. It is displayed as its line.
+#[derive(Debug, Drop)]
 pub enum ToolFault<'a> {
     /// The words are none of the program's; the text says how to use it.
-    #[error("{text}")]
     Usage {
         text: String,
     },
     /// The file can't be opened, or the folder can't be used; why, as the system says it.
-    #[error("refused file {name}")]
     File {
         name: &'a str,
         why: Option<io::Error>,
     },
     /// The protocol's text has a fault.
-    #[error("refused text {} {at}", text_word_of(*kind))]
     Text {
         at: usize,
         kind: TextKind,
     },
     /// The protocol has a fault.
-    #[error("refused protocol {}", protocol_word_of(*fault))]
     Protocol {
         fault: GlobalFault,
     },
     /// The role does not do the same in each branch of that choice, counted in preorder from 0.
-    #[error("refused projection {} {choice}", text_of(role))]
     Projection {
         role: Name,
         choice: usize,
     },
     /// No session can be opened with the types.
-    #[error("refused open")]
     Open,
     /// A file can't be read; why, as the system says it.
-    #[error("refused read")]
     Read {
         why: Option<io::Error>,
     },
     /// The answers can't be written.
-    #[error("refused write")]
     Write,
     /// The script was read from too often.
-    #[error("refused turns")]
     Turns,
     /// The port can't be listened on; why, as the system says it.
-    #[error("refused bind")]
     Bind {
         why: Option<io::Error>,
     },
     /// No connection can be accepted.
-    #[error("refused accept")]
     Accept,
     /// The session's cell closed without a room.
-    #[error("refused lost {session}")]
     Lost {
         session: u64,
     },
     /// The journal of a session can't be opened, or another process has it; why, as the system says it.
-    #[error("refused journal {session}")]
     JournalFile {
         session: u64,
         why: Option<io::Error>,
     },
     /// That line of a session's journal, counted from 1, is unreadable, or its command isn't accepted.
-    #[error("refused journal {session} {line}")]
     JournalLine {
         session: u64,
         line: u64,
     },
     /// The folder has sessions of another protocol.
-    #[error("refused journal protocol")]
     JournalProtocol,
     /// The journal of a session can't be read, cut or written, or lines of it were lost; or a pass of the session is in
     /// use.
-    #[error("refused journal {session}")]
     JournalLost {
         session: u64,
     },
     /// Memory ran out.
-    #[error("refused memory")]
     Memory,
 }
 
@@ -155,8 +137,13 @@ impl From<ReplayFault> for ToolFault<'_> {
 }
 
 // The name as text.
-fn text_of(name: &Name) -> &str {
-    str::from_utf8(name.as_bytes()).unwrap_or_default()
+fn text_of(name: &Name) -> &str
+    ensures { result.now ≡ name.now }
+{
+    match str::from_utf8(name.as_bytes()) {
+        Ok(text) => text,
+        Err(_) => unreachable!(),
+    }
 }
 
 // The word for a fault of a text.
@@ -194,65 +181,48 @@ fn protocol_word_of(fault: GlobalFault) -> &'static str
     }
 }
 
-/// The line that tells the fault, without a line break at its end. What is said of the words may be several lines.
-pub fn fault_line(alloc: Global, fault: &ToolFault<'_>) -> Result<Vec<u8>, AllocError>
-    ensures { IfOk result (λ line. IsFaultLine line.items fault.now) }
-{
-    let mut line = Vec::new(alloc);
-    write_line(fault, &mut line)?;
-    Ok(line)
+impl fmt::Display for ToolFault<'_> {
+    ghost output = { λ fault. Some (fault_text fault) };
+
+    fn fmt<W: fmt::Write>(&self, f: &mut fmt::Formatter<W>) -> fmt::Result {
+        match self {
+            ToolFault::Usage { text } => f.write_str(text.as_str()),
+            ToolFault::File { name, .. } => write!(f, "refused file {name}"),
+            ToolFault::Text { at, kind } => {
+                write!(f, "refused text {} {at}", text_word_of(*kind))
+            }
+            ToolFault::Protocol { fault } => {
+                write!(f, "refused protocol {}", protocol_word_of(*fault))
+            }
+            ToolFault::Projection { role, choice } => {
+                write!(f, "refused projection {} {choice}", text_of(role))
+            }
+            ToolFault::Open => f.write_str("refused open"),
+            ToolFault::Read { .. } => f.write_str("refused read"),
+            ToolFault::Write => f.write_str("refused write"),
+            ToolFault::Turns => f.write_str("refused turns"),
+            ToolFault::Bind { .. } => f.write_str("refused bind"),
+            ToolFault::Accept => f.write_str("refused accept"),
+            ToolFault::Lost { session } => write!(f, "refused lost {session}"),
+            ToolFault::JournalFile { session, .. } | ToolFault::JournalLost { session } => {
+                write!(f, "refused journal {session}")
+            }
+            ToolFault::JournalLine { session, line } => {
+                write!(f, "refused journal {session} {line}")
+            }
+            ToolFault::JournalProtocol => f.write_str("refused journal protocol"),
+            ToolFault::Memory => f.write_str("refused memory"),
+        }
+    }
 }
 
-// Writes the line at the end, or a part of it.
-fn write_line(fault: &ToolFault<'_>, out: &mut Vec<u8>) -> Result<(), AllocError>
-    ensures { OnOk result
-        (AppendsSuch (λ line. IsFaultLine line fault.now) out.old.items out.new.items) }
+impl Error for ToolFault<'_> {}
+
+/// The line that tells the fault, without a line break at its end. What is said of the words may be several lines.
+pub fn fault_line(alloc: Global, fault: &ToolFault<'_>) -> Result<Vec<u8>, AllocError>
+    ensures { IfOk result (λ line. line.items ≡ fault_text fault.now) }
 {
-    match fault {
-        ToolFault::Usage { text } => out.extend_from_slice(text.as_bytes()),
-        ToolFault::File { name, .. } => {
-            out.extend_from_slice(b"refused file ")?;
-            out.extend_from_slice(name.as_bytes())
-        }
-        ToolFault::Text { at, kind } => {
-            out.extend_from_slice(b"refused text ")?;
-            out.extend_from_slice(text_word_of(*kind).as_bytes())?;
-            out.push(b' ')?;
-            write_number(*at as u64, out)
-        }
-        ToolFault::Protocol { fault } => {
-            out.extend_from_slice(b"refused protocol ")?;
-            out.extend_from_slice(protocol_word_of(*fault).as_bytes())
-        }
-        ToolFault::Projection { role, choice } => {
-            out.extend_from_slice(b"refused projection ")?;
-            out.extend_from_slice(role.as_bytes())?;
-            out.push(b' ')?;
-            write_number(*choice as u64, out)
-        }
-        ToolFault::Open => out.extend_from_slice(b"refused open"),
-        ToolFault::Read { .. } => out.extend_from_slice(b"refused read"),
-        ToolFault::Write => out.extend_from_slice(b"refused write"),
-        ToolFault::Turns => out.extend_from_slice(b"refused turns"),
-        ToolFault::Bind { .. } => out.extend_from_slice(b"refused bind"),
-        ToolFault::Accept => out.extend_from_slice(b"refused accept"),
-        ToolFault::Lost { session } => {
-            out.extend_from_slice(b"refused lost ")?;
-            write_number(*session, out)
-        }
-        ToolFault::JournalFile { session, .. } | ToolFault::JournalLost { session } => {
-            out.extend_from_slice(b"refused journal ")?;
-            write_number(*session, out)
-        }
-        ToolFault::JournalLine { session, line } => {
-            out.extend_from_slice(b"refused journal ")?;
-            write_number(*session, out)?;
-            out.push(b' ')?;
-            write_number(*line, out)
-        }
-        ToolFault::JournalProtocol => out.extend_from_slice(b"refused journal protocol"),
-        ToolFault::Memory => out.extend_from_slice(b"refused memory"),
-    }
+    Ok(fault.to_string(alloc)?.into_bytes())
 }
 
 /// What the system says of a fault of a file, of the port or of a journal.
