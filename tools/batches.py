@@ -1,5 +1,5 @@
-"""Wrong bodies that are tried together: a check of a crate with one in each of many functions says of each function whether
-it is proved, so the start of the prover is paid once for all of them.
+"""Wrong bodies that are tried together: a check of many functions, with a wrong body in each, says of each whether it is
+proved, so the start of the prover is paid once for all of them.
 
 A function whose callee isn't proved may be passed over; it is tried again in a later check, without that callee's wrong
 body. What a check doesn't settle is left for `rt must-fail`, which tries each alone: a change outside a function's body, one
@@ -85,8 +85,8 @@ def owner_of(lines, start):
 class Batches:
     """Tries the wrong bodies of a crate, in a copy of the repository that has this crate and those below it."""
 
-    def __init__(self, room, name, say):
-        self.name, self.say = name, say
+    def __init__(self, room, name, say, keep):
+        self.name, self.say, self.keep = name, say, keep
         self.crate = room / "crates" / name
         self.calls = collections.defaultdict(set)
         self.refused, self.alone = set(), []
@@ -113,11 +113,11 @@ class Batches:
 
     def tried(self, batch):
         """Tries these together, and returns those that this doesn't settle though another check may."""
-        lines, verdict = self.check(batch)
-        if verdict != "logic=not-proved":
-            half = len(batch) // 2
-            if half and verdict != "logic=proved":
-                return self.tried(batch[:half]) + self.tried(batch[half:])
+        lines, is_proved = self.check(batch)
+        half = len(batch) // 2
+        if half and is_proved is None:
+            return self.tried(batch[:half]) + self.tried(batch[half:])
+        if is_proved is not False:
             self.alone += [it.edit for it in batch]
             return []
         told = collections.defaultdict(list)
@@ -140,6 +140,7 @@ class Batches:
             if why and ("search" in why[0] or name not in gone):
                 first = next((line for line in lines if f"/{name}/" in line and ": error" in line), f"{it.function}: {why[0]}")
                 self.refused.add(it.edit)
+                self.keep(it.edit)
                 self.say(f"rt: must-fail {self.name}/{it.edit.name}: refused, as it must be: {first[:160]}")
             elif self.reached(it.function) & (names - {it.function}):
                 left.append(it)
@@ -156,17 +157,19 @@ class Batches:
         return found - {function}
 
     def check(self, batch):
-        """What rt says of the crate with these wrong bodies, line by line, and the first word of its verdict."""
+        """What rt says of these functions with the wrong bodies, line by line, and whether it proves them, if it says so."""
         files = {self.crate / file for it in batch for file, _, _ in it.pairs}
         was = {file: file.read_bytes() for file in files}
         for it in batch:
             it.apply(self.crate)
-        ran = subprocess.run(["rt", "check"], cwd=self.crate, stdin=subprocess.DEVNULL, stdout=subprocess.PIPE,
+        only = [word for it in batch for word in ("--only", it.function)]
+        ran = subprocess.run(["rt", "check", *only], cwd=self.crate, stdin=subprocess.DEVNULL, stdout=subprocess.PIPE,
                              stderr=subprocess.STDOUT, text=True, errors="replace", check=False)
         for file, content in was.items():
             file.write_bytes(content)
         lines = ran.stdout.splitlines()
-        return lines, next((line.split()[0] for line in reversed(lines) if line.startswith("logic=")), "")
+        found = next((it for line in reversed(lines) if (it := re.fullmatch(r"only=(\d+) proved=(\d+)", line))), None)
+        return lines, found and found[1] == found[2]
 
 
 def end(path):
