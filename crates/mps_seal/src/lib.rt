@@ -1,8 +1,8 @@
-//! Seals of a journal's lines: each is over the seal before and the line, so a line that is changed, moved, dropped or
-//! doubled is seen.
+//! Seals of a journal's lines: each is over the seal before and the line, so a line that is changed, moved or doubled is
+//! seen, and where lines are dropped, unless they are the last.
 //!
 //! ```
-//! let first = Seal::first(b"roles a b ; end", 1);
+//! let first = Seal::first(alloc, b"roles a b ; end", 1)?;
 //! first.write(b"a mark m", &mut out)?; // "a mark m " and sixteen hexadecimal digits
 //! first.read(out.as_slice()) // Some: `a mark m`, and the seal that the next line goes by
 //! ```
