@@ -38,11 +38,12 @@ fn put_entry(room: &Room, k: u64, text: &mut Vec<u8>) -> Result<(), AllocError>
     ensures past { length room.now.journal ≤ k → OnOk result (text.new.items ≡ []) }
 {
     text.clear();
-    let Some(entry) = room.entry(k)? else {
+    let Some(asked) = room.command(k)? else {
         return Ok(());
     };
+    let (role, command) = asked;
     each_has_a_line(room);
-    write_journal_line(room.names(), entry.role, None, &entry.command, text)
+    write_journal_line(room.names(), role, None, &command, text)
 }
 
 impl Embedded {

@@ -8,7 +8,7 @@ use Rattle.mps_dev.specs.declared.traits.Sink.{Ghosts as SinkGhosts}
 use Rattle.mps_line.specs.declared.write_replies.Reply.{Reply}
 use Rattle.mps_hub.specs.Private.Connections.{IsAnsweredFirst}
 use Rattle.mps_hub.specs.declared.attending.Attended.{Attended}
-use Rattle.mps_hub.specs.declared.attending.Attended.TheVariants.{NoLine, TurnedAway, Conversed, Memory as Starved, Unrecorded}
+use Rattle.mps_hub.specs.declared.attending.Attended.TheVariants.{NoLine, TurnedAway, Conversed, Memory as OutOfMemory, Unrecorded}
 
 module _ {K : Type 0} (records whole : K → Bool) where
   -- whether nothing was lost of what isn't recorded
@@ -42,5 +42,5 @@ pub refused_told : {W : Type 0} (sink : SinkGhosts W) (old new : W) (reply : Rep
 refused_told sink old new reply NoLine h = tt
 refused_told sink old new reply TurnedAway h = tt
 refused_told sink old new reply (Conversed ending) h = absurd h
-refused_told sink old new reply Starved h = tt
+refused_told sink old new reply OutOfMemory h = tt
 refused_told sink old new reply Unrecorded h = absurd h

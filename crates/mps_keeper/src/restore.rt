@@ -3,7 +3,7 @@ ghost use Rattle.std.specs.Prelude.{◌≡◌, ◌≢◌, ◌+◌, length, ℕ, 
 ghost use Rattle.std.specs.Prelude.{IfErr, OnOk};
 ghost use Rattle.mps_command.specs.Changes.{change_of};
 ghost use Rattle.mps_command.specs.declared.answer.Answer.TheVariants.{Refused as Denied};
-ghost use Rattle.mps_command.specs.declared.answer.Refusal.TheVariants.{Memory as NoMemory};
+ghost use Rattle.mps_command.specs.declared.answer.Refusal.TheVariants as refusals;
 ghost use Rattle.mps_room.specs.Journal.{is_accepted};
 ghost use Rattle.mps_keeper.specs.Restored.{IsAcceptedOf, IsRefusedOf, LineRestored};
 ghost use Rattle.mps_keeper.specs.RestoredFaults.{of_reading, IsRestoredTo, IsFirstFault, IsFaulty, IsUncalled};
@@ -64,7 +64,7 @@ pub struct Restored {
 
 // Why the command of that line is refused.
 fn of_refusal(at: u64, refusal: Refusal) -> RestoreFault
-    ensures { IsUncalled (refusal ≢ NoMemory) at result }
+    ensures { IsUncalled (refusal ≢ refusals.Memory) at result }
 {
     match refusal {
         Refusal::Memory => RestoreFault::Memory,
@@ -76,7 +76,7 @@ fn of_refusal(at: u64, refusal: Refusal) -> RestoreFault
 fn of_answer(at: u64, answer: &Answer) -> Result<(), RestoreFault>
     ensures accepted { OnOk result (is_accepted answer.now ≡ true) }
     ensures fault { IfErr result
-        (IsUncalled ((is_accepted answer.now ≡ false) × (answer.now ≢ Denied NoMemory)) at) }
+        (IsUncalled ((is_accepted answer.now ≡ false) × (answer.now ≢ Denied refusals.Memory)) at) }
 {
     match answer {
         Answer::Refused(refusal) => Err(of_refusal(at, *refusal)),

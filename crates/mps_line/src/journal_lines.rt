@@ -9,7 +9,7 @@ ghost use Rattle.mps_line.specs.Commands.{role_named, SpellsNumbered, MayHaveNum
 use crate::line_parts::{read_role, split_at_space, write_count, write_role};
 use crate::read_commands::LineFault;
 use crate::read_conversations::{asks_for_change, read_numbered};
-use crate::write_commands::append_command;
+use crate::write_commands::push_command;
 use mps_base::{Role, Roles};
 use mps_command::{Command, Forward};
 use std::alloc::{AllocError, Global};
@@ -108,9 +108,9 @@ fn write_numbered(
         Some(n) => {
             write_count(n, out)?;
             out.push(b' ')?;
-            append_command(roles, command, out)
+            push_command(roles, command, out)
         }
-        None => append_command(roles, command, out),
+        None => push_command(roles, command, out),
     }
 }
 

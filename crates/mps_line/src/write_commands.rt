@@ -31,15 +31,19 @@ pub fn append_command(roles: &Roles, command: &Command, out: &mut Vec<u8>) -> Re
     ensures err { OnErr result (out.new.items ≡ out.old.items) }
 {
     let before = out.len();
-    let written = write_parts(roles, command, out);
+    let written = push_command(roles, command, out);
     if written.is_err() {
         out.truncate(before);
     }
     written
 }
 
-// Writes the command, or a part of it.
-fn write_parts(roles: &Roles, command: &Command, out: &mut Vec<u8>) -> Result<(), AllocError>
+/// Writes the command at the end, or a part of it where memory runs out.
+pub(crate) fn push_command(
+    roles: &Roles,
+    command: &Command,
+    out: &mut Vec<u8>,
+) -> Result<(), AllocError>
     requires known { NamesRolesOf roles.now command.now }
     ensures ok { OnOk result (AppendsSuch
         (λ text. SpellsCommand roles.now text command.now) out.old.items out.new.items) }
@@ -120,26 +124,17 @@ fn verb_of(command: &Command) -> Verb
     ensures { result ≡ verb_of command.now }
 {
     match command {
-        Command::Forward(step) => forward_verb(step),
+        Command::Forward(Forward::Send { .. }) => Verb::Send,
+        Command::Forward(Forward::Choose { .. }) => Verb::Choose,
+        Command::Forward(Forward::Receive { .. }) => Verb::Receive,
+        Command::Forward(Forward::Pick { .. }) => Verb::Pick,
+        Command::Forward(Forward::Mark { .. }) => Verb::Mark,
+        Command::Forward(Forward::Commit) => Verb::Commit,
         Command::Undo(_) => Verb::Undo,
         Command::Rollback(_) => Verb::Rollback,
         Command::Back(_) => Verb::Back,
         Command::News(_) => Verb::News,
         Command::Show => Verb::Show,
-    }
-}
-
-// The verb of the step that a role wants to take.
-fn forward_verb(step: &Forward) -> Verb
-    ensures { result ≡ verb_of (commands.Forward step.now) }
-{
-    match step {
-        Forward::Send { .. } => Verb::Send,
-        Forward::Choose { .. } => Verb::Choose,
-        Forward::Receive { .. } => Verb::Receive,
-        Forward::Pick { .. } => Verb::Pick,
-        Forward::Mark { .. } => Verb::Mark,
-        Forward::Commit => Verb::Commit,
     }
 }
 

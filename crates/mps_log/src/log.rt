@@ -185,22 +185,27 @@ impl Log {
         message_at(arena, key)
     }
 
-    /// The number of the step that gave the first message that waits, of those that one role sent to another. Any roles
-    /// may be named.
-    pub fn first_sent(&self, from: Role, to: Role) -> Option<StepId>
-        ensures step { result
+    /// The first message that waits, of those that one role sent to another, with the number of the step that gave it.
+    /// Any roles may be named.
+    pub fn first_sent(&self, from: Role, to: Role) -> Option<(StepId, &Message)>
+        ensures message { option_map (λ sent. sent.1.now) result
+            ≡ slice_get (unreceived from to (steps self.now.keyed_steps)) 0 }
+        ensures step { option_map (λ sent. sent.0) result
             ≡ option_and_then (id_in self.now.keyed_steps) (first_waiting self.now.keyed_steps from to) }
         // by its number the message is found again
-        ensures message { option_and_then (message_sent (steps self.now.keyed_steps)) result
-            ≡ slice_get (unreceived from to (steps self.now.keyed_steps)) 0 }
-        ensures gives { IfSome result (λ id. IsSome (message_sent (steps self.now.keyed_steps) id)) }
+        ensures gives { IfSome result (λ sent.
+            message_sent (steps self.now.keyed_steps) sent.0 ≡ Some sent.1.now) }
     {
         let arena = &self.arena;
         if from.index() >= 8 || to.index() >= 8 {
             return None;
         }
         let key = self.queues.front(from, to)?;
-        Some(arena.get(key).id)
+        let step = arena.get(key);
+        match &step.act {
+            Act::Out { message, .. } => Some((step.id, message)),
+            _ => None,
+        }
     }
 
     /// What the role keeps in the slot: the value that the newest receipt into it took.

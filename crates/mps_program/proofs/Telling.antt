@@ -14,7 +14,7 @@ use Rattle.mps_program.specs.Private.Served.{TookOne, TellsPort, IsHubFault, of_
 use Rattle.mps_program.specs.Journals.{IsRecordingFault, recorded_of}
 use Rattle.mps_hub.specs.Serving.{IsServeFaultOf}
 use Rattle.mps_hub.specs.declared.server.ServeFault.{ServeFault}
-use Rattle.mps_hub.specs.declared.server.ServeFault.TheVariants.{Accept as NotAccepted, Memory as NoMemory, Unrecorded}
+use Rattle.mps_hub.specs.declared.server.ServeFault.TheVariants.{Accept as NotAccepted, Memory as OutOfMemory, Unrecorded}
 use Rattle.mps_program.specs.Faults.{after_writes, failed_writes}
 use Rattle.mps_program.specs.declared.faults.ToolFault.{ToolFault}
 use Rattle.mps_program.specs.declared.faults.ToolFault.TheVariants.{Write, Bind, Accept, Lost, Memory}
@@ -156,7 +156,7 @@ recording_hub folder first n fault h = h
 -- the serving ends
 pub serving_hub : (folder : Option (List ℕ)) (first n : ℕ) (fault : ServeFault) → IsServeFaultOf first (recorded_of folder n) fault → IsHubFault folder first n (of_serving fault)
 serving_hub folder first n NotAccepted h = tt
-serving_hub folder first n NoMemory h = tt
+serving_hub folder first n OutOfMemory h = tt
 serving_hub None first n (Unrecorded session) h = absurd (omega (arith, h.0, h.1))
 serving_hub (Some f) first n (Unrecorded session) h = inr h
 
@@ -169,7 +169,7 @@ recording_writes (Some f) first n fault h = refl
 
 pub serving_writes : (fault : ServeFault) → failed_writes (of_serving fault) ≡ 0
 serving_writes NotAccepted = refl
-serving_writes NoMemory = refl
+serving_writes OutOfMemory = refl
 serving_writes (Unrecorded session) = refl
 
 -- a fault that is handed on, and is no failed write

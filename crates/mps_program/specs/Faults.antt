@@ -10,12 +10,15 @@ use Rattle.mps_global.specs.declared.faults.GlobalFault.TheVariants.{DoubleLabel
 use Rattle.mps_global.specs.declared.faults.GlobalFault.TheVariants.{Shadowed, Unguarded}
 use Rattle.mps_text.specs.declared.fault.TextKind.{TextKind}
 use Rattle.mps_text.specs.declared.fault.TextKind.TheVariants.{TooLong, Word, Unexpected, TooManyNodes, TooDeep}
-use Rattle.mps_text.specs.declared.fault.TextKind.TheVariants.{Trailing, Memory as NoRoom}
+use Rattle.mps_text.specs.declared.fault.TextKind.TheVariants.{Trailing}
+use Rattle.mps_text.specs.declared.fault.TextKind.TheVariants as texts
 use Rattle.mps_wire.specs.declared.script.ReplayFault.{ReplayFault}
 use Rattle.mps_wire.specs.declared.script.ReplayFault.TheVariants.{Open as NotOpened, ReadFault, WriteFault}
-use Rattle.mps_wire.specs.declared.script.ReplayFault.TheVariants.{Turns as TooManyReads, Memory as OutOfMemory}
+use Rattle.mps_wire.specs.declared.script.ReplayFault.TheVariants.{Turns as TooManyReads}
+use Rattle.mps_wire.specs.declared.script.ReplayFault.TheVariants as scripts
 use Rattle.mps_words.specs.declared.faults.UseFault.{UseFault}
-use Rattle.mps_words.specs.declared.faults.UseFault.TheVariants.{Usage as Misuse, Memory as NoMemory}
+use Rattle.mps_words.specs.declared.faults.UseFault.TheVariants.{Usage as Misuse}
+use Rattle.mps_words.specs.declared.faults.UseFault.TheVariants as words
 use Rattle.mps_program.specs.Streams.{CantLoad, CantShow}
 use Rattle.mps_program.specs.declared.faults.ToolFault.{ToolFault}
 use Rattle.mps_program.specs.declared.faults.ToolFault.TheVariants.{Usage, File, Text, Protocol, Projection, Open, Read}
@@ -30,7 +33,7 @@ text_word Unexpected = codes "unexpected"
 text_word TooManyNodes = codes "toomanynodes"
 text_word TooDeep = codes "toodeep"
 text_word Trailing = codes "trailing"
-text_word NoRoom = codes "memory"
+text_word texts.Memory = codes "memory"
 
 -- the word for a fault of a protocol
 abbrev pub protocol_word : GlobalFault → List ℕ
@@ -115,7 +118,7 @@ as_told false (Err fault) = Err (without fault)
 -- a fault of use, as the program tells it
 abbrev pub of_use : UseFault → ToolFault
 of_use (Misuse text) = Usage text
-of_use NoMemory = Memory
+of_use words.Memory = Memory
 
 -- why a script was not run to its end, as the program tells it
 abbrev pub of_script : ReplayFault → ToolFault
@@ -123,7 +126,7 @@ of_script (NotOpened fault) = Open
 of_script ReadFault = Read None
 of_script WriteFault = Write
 of_script TooManyReads = Turns
-of_script OutOfMemory = Memory
+of_script scripts.Memory = Memory
 
 -- how a text may fail to be read: a call more failed, or memory ran out and none more failed
 abbrev pub IsReadFault : ℕ → ℕ → ToolFault → Type 0

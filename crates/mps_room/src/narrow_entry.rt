@@ -3,10 +3,9 @@ ghost use Rattle.std.specs.Prelude.{◌≡◌, ◌+◌, ◌<◌, ◌≤◌, ◌^
 ghost use Rattle.mps_command.specs.declared.command.Command.TheVariants as commands;
 ghost use Rattle.mps_room.specs.Journal.{undone_by};
 ghost use Rattle.mps_room.specs.Private.Forms.{command_in, role_in, narrow, narrow_in, step_done, Fits, TakesSuch};
-ghost use Rattle.mps_room.specs.Private.Narrow.{given_in, message_at, message_of, whole, with_message};
+ghost use Rattle.mps_room.specs.Private.Narrow.{given_in, message_at, message_of, with_message};
 ghost use Rattle.mps_session.specs.declared.gist.Gist.TheVariants as gists;
 
-use crate::entry::Entry;
 use crate::narrow_name::NarrowName;
 use mps_base::{Message, Role, StepId, Value};
 use mps_command::{Answer, Command, Done, Forward, StepIds};
@@ -135,19 +134,19 @@ impl NarrowEntry {
         }
     }
 
-    /// The entry itself, of a journal.
-    pub(crate) fn entry(&self, journal: &[NarrowEntry], alloc: Global) -> Result<Entry, AllocError>
-        ensures { IfOk result (λ entry. entry ≡ whole journal.now self.now) }
+    /// Whose entry it is, and what was asked for.
+    pub(crate) fn asked(&self, alloc: Global) -> Result<(Role, Command), AllocError>
+        ensures { IfOk result (λ asked. asked ≡ (self.now.entry.role, self.now.entry.command)) }
     {
-        Ok(Entry {
-            role: self.form.role(),
-            command: self.form.command(alloc)?,
-            answer: self.answer(journal, alloc)?,
-        })
+        Ok((self.form.role(), self.form.command(alloc)?))
     }
 
-    // How it was answered.
-    fn answer(&self, journal: &[NarrowEntry], alloc: Global) -> Result<Answer, AllocError>
+    /// How it was answered, in this journal.
+    pub(crate) fn answer(
+        &self,
+        journal: &[NarrowEntry],
+        alloc: Global,
+    ) -> Result<Answer, AllocError>
         ensures { IfOk result (λ answer. answer
             ≡ with_message (message_of journal.now self.now) self.now.entry.answer) }
     {

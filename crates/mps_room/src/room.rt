@@ -1,5 +1,6 @@
 //! Rooms.
 ghost use Rattle.std.specs.Prelude.{◌≡◌, ◌<◌, ◌≤◌, ℕ, false, [], length, slice_get, Ok, None, IfOk};
+ghost use Rattle.std.specs.Option.{option_map};
 ghost use Rattle.mps_command.specs.declared.command.Command.TheVariants as commands;
 ghost use Rattle.mps_machine.specs.Machine.{initial};
 ghost use Rattle.mps_room.specs.Journal.{grown, is_accepted, news, answer_to, run, IsLegal, MayAnswer};
@@ -104,8 +105,26 @@ impl Room {
         // past the end nothing asks for memory
         ensures none { length self.now.journal ≤ k → result ≡ Ok None }
     {
+        let Some((role, command)) = self.command(k)? else {
+            return Ok(None);
+        };
+        let answer = self.journal[k as usize].answer(self.journal.as_slice(), self.alloc)?;
+        Ok(Some(Entry {
+            role,
+            command,
+            answer,
+        }))
+    }
+
+    /// The command of the k-th entry, from 0, and whose it is. Unlike `entry`, it makes no answer.
+    pub fn command(&self, k: u64) -> Result<Option<(Role, Command)>, AllocError>
+        ensures command { IfOk result (λ asked. asked
+            ≡ option_map (λ entry. (entry.role, entry.command)) (slice_get self.now.journal k)) }
+        // past the end nothing asks for memory
+        ensures none { length self.now.journal ≤ k → result ≡ Ok None }
+    {
         match self.journal.get(k as usize) {
-            Some(narrow) => Ok(Some(narrow.entry(self.journal.as_slice(), self.alloc)?)),
+            Some(narrow) => Ok(Some(narrow.asked(self.alloc)?)),
             None => Ok(None),
         }
     }

@@ -70,8 +70,8 @@ impl Session {
     }
 
     // Does the step of a receipt or a pick. The message that waits serves the verdict and the answer, the number of its
-    // step the gist: both are at the front of one queue, which takes a load to find. No other step looks for a message,
-    // so these two have a way of their own.
+    // step the gist: one look at the front of its queue finds both. No other step looks for a message, so these two have
+    // a way of their own.
     #[inline(always)]
     fn attempt_receipt(
         &mut self,
@@ -88,8 +88,10 @@ impl Session {
         ensures types { self.new.types ≡ self.old.types }
     {
         let configuration = &self.configuration;
-        let source = configuration.log.first_sent(from, role);
-        let first = configuration.log.message(from, role, 0);
+        let (source, first) = match configuration.log.first_sent(from, role) {
+            Some((source, first)) => (Some(source), Some(first)),
+            None => (None, None),
+        };
         let node = configuration.allowed(role, step, first)?;
         let got = once_more(configuration.alloc, first)?;
         let id = self.configuration.act(role, step, node)?;

@@ -64,6 +64,20 @@ fn is_at(alloc: Global, room: &Room, place: u64, row: Row) -> Result<bool, Fail>
     Ok(text_at(alloc, room, place)?.as_str() == wanted.as_str())
 }
 
+// The command at the place in words, and whose it is, without its answer.
+fn command_at(alloc: Global, room: &Room, place: u64) -> Result<String, Fail> {
+    match room.command(place)? {
+        Some((role, command)) => entry_text(alloc, role, &command, ""),
+        None => Err("a command".into()),
+    }
+}
+
+// Whether the command at the place is that of the row.
+fn is_asked_at(alloc: Global, room: &Room, place: u64, row: Row) -> Result<bool, Fail> {
+    let wanted = text_wanted(alloc, room, (row.0, ""))?;
+    Ok(command_at(alloc, room, place)?.as_str() == wanted.as_str())
+}
+
 // What the line is answered.
 fn answer_to(alloc: Global, room: &mut Room, line: &str) -> Result<Answer, Fail> {
     let (role, command) = asked(alloc, room.names(), line)?;
@@ -287,13 +301,14 @@ const EACH_KIND: &[Row] = &[
 
 // Whether nothing stands in the journal after its entries.
 fn has_no_more(room: &Room) -> Result<bool, Fail> {
-    Ok(room.entry(room.entries())?.is_none())
+    let end = room.entries();
+    Ok(room.entry(end)?.is_none() && room.command(end)?.is_none())
 }
 
 // The rows, of which each is accepted, are the journal's entries.
 fn has_entries(alloc: Global, room: &Room, rows: &[Row]) -> Result<bool, Fail> {
     for (k, row) in rows.iter().enumerate() {
-        if !is_at(alloc, room, k as u64, *row)? {
+        if !is_at(alloc, room, k as u64, *row)? || !is_asked_at(alloc, room, k as u64, *row)? {
             return Ok(false);
         }
     }

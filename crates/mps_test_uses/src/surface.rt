@@ -442,6 +442,7 @@ fn rooms(rt: HostRuntime) -> Result<(), Fail> {
     let done = room.apply(a(), Command::Forward(Forward::Mark { name }));
     assert!(rt; matches!(done, Answer::Done(_)) && room.entries() == 1);
     assert!(rt; room.entry(0)?.is_some() && room.session().len() == 1);
+    assert!(rt; room.command(0)?.is_some());
     let (length, _) = room.news(a(), 0)?;
     assert!(rt; length == 1);
     let _shown = room.show()?;

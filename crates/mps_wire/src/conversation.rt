@@ -6,7 +6,7 @@ ghost use Rattle.mps_command.specs.declared.command.Command.{Command as Asked};
 ghost use Rattle.mps_line.specs.Replies.{SpellsReply};
 ghost use Rattle.mps_lines.specs.Lines.{ended, front, most_kept};
 ghost use Rattle.mps_wire.specs.Conversations.{RepliesTo, ConversesLine, ConversesBrokenOff, reply_of};
-ghost use Rattle.mps_wire.specs.declared.conversation.Broken.TheVariants.{Memory as NoMemory, Untold as MayNot};
+ghost use Rattle.mps_wire.specs.declared.conversation.Broken.TheVariants.{Memory as OutOfMemory, Untold as MayNot};
 ghost use Rattle.mps_wire.specs.Endings.{EndedAs};
 ghost use Rattle.mps_wire.specs.Private.Endings.{TurnedTo, IsBrokenOff, IsWholly, TakesOn, TakesBrokenOff, begun_or};
 ghost use Rattle.mps_wire.specs.Private.Endings.{failed_by};
@@ -54,7 +54,7 @@ pub enum Broken {
 }
 
 impl From<AllocError> for Broken {
-    ghost from_gives = { λ _ e. e ≡ NoMemory };
+    ghost from_gives = { λ _ e. e ≡ OutOfMemory };
 
     fn from(_e: AllocError) -> Broken {
         Broken::Memory

@@ -2,7 +2,7 @@
 use Rattle.std.specs.Prelude.{◌≡◌, ⊤, ℕ, List, Option}
 use Rattle.std.specs.Io.KnownBytes.{Appends}
 use Rattle.mps_hub.specs.declared.server.ServeFault.{ServeFault}
-use Rattle.mps_hub.specs.declared.server.ServeFault.TheVariants.{Accept as NotAccepted, Memory as NoMemory, Unrecorded}
+use Rattle.mps_hub.specs.declared.server.ServeFault.TheVariants.{Accept as NotAccepted, Memory as OutOfMemory, Unrecorded}
 use Rattle.mps_program.specs.Journals.{IsRecordingFault}
 use Rattle.mps_program.specs.Served.{IsListeningLine, IsPortFor}
 use Rattle.mps_program.specs.declared.faults.ToolFault.{ToolFault}
@@ -28,5 +28,5 @@ IsHubFault folder first n fault = IsRecordingFault folder first n fault
 -- why the serving ended, as the program tells it
 abbrev pub of_serving : ServeFault → ToolFault
 of_serving NotAccepted = Accept
-of_serving NoMemory = Memory
+of_serving OutOfMemory = Memory
 of_serving (Unrecorded session) = JournalLost session

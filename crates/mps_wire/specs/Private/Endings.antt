@@ -7,7 +7,7 @@ use Rattle.mps_wire.specs.Endings.{WasAnswered, WasBrokenOff}
 use Rattle.mps_wire.specs.Runs.{Going, GaveAtLeast}
 use Rattle.mps_wire.specs.Streams.{Streams, Counts, all_went_well, one_read_ended, one_read_failed, one_write_failed}
 use Rattle.mps_wire.specs.declared.conversation.Broken.{Broken}
-use Rattle.mps_wire.specs.declared.conversation.Broken.TheVariants.{Write, Memory as NoMemory, Untold as Unsaid}
+use Rattle.mps_wire.specs.declared.conversation.Broken.TheVariants.{Write, Memory as OutOfMemory, Untold as Unsaid}
 use Rattle.mps_wire.specs.declared.conversation.Ending.{Ending}
 use Rattle.mps_wire.specs.declared.conversation.Ending.TheVariants.{Closed, ReadFault, WriteFault, Turns, Memory}
 use Rattle.mps_wire.specs.declared.conversation.Ending.TheVariants.{Untold}
@@ -30,7 +30,7 @@ module _ {S : Type 0} (answers broken : Answering S) (start : S) (first before a
 abbrev pub failed_by : Result Unit Broken → ℕ
 failed_by (Ok x) = 0
 failed_by (Err Write) = 1
-failed_by (Err NoMemory) = 0
+failed_by (Err OutOfMemory) = 0
 failed_by (Err Unsaid) = 0
 
 -- one line is answered, and its answer is written: the whole of it

@@ -1,24 +1,25 @@
--- `Session::attempt_receipt` meets its clauses `served`, `source` and `sent`, keeps the invariant of its type, and may call `allowed` and `act`.
-use Rattle.std.proofs.Common.{◌≡◌, map, refl, sym, ap, ◌∙◌, subst}
+-- `Session::attempt_receipt` meets its clause `served`, keeps the invariant of its type, and may call `allowed` and `act`.
+use Rattle.std.proofs.Common.{◌≡◌, arith, map, refl, ap, ◌∙◌}
+use Rattle.std.specs.Prelude.{slice_get}
+use Rattle.std.specs.Option.{option_copied}
+use Rattle.mps_history.specs.Steps.{unreceived}
 use Rattle.mps_local.specs.Local.{plain}
+use Rattle.mps_arena.specs.KeyedSteps.{steps}
 use Rattle.mps_links.specs.Marks.{marked_keys}
 use Rattle.mps_command.specs.Acts.{act_of}
-use Rattle.mps_session.specs.Answers.{taken_of, IsSent}
 use Rattle.mps_session.specs.Private.Configurations.{lists_of, state_of}
 use Rattle.mps_session.specs.SessionState.{SessionState}
-use Rattle.mps_session.proofs.FirstMessage.{moved_first, taken_first}
+use Rattle.mps_session.proofs.FirstMessage.{taken_first}
 use Rattle.mps_session.proofs.RemoveMarked.{push_unmarked}
 use Rattle.mps_session.proofs.ForwardAnswers as serving
 use Rattle.mps_session.proofs.ForwardServed as forwarding
 use Rattle.mps_session.proofs.session.Session.attempt_receipt.Goals as goal
+use Rattle.mps_session.proofs.session.Session.attempt_receipt.Goals.{in-Some, in-None}
 
 pub allowed-requires-clause-stands : goal.allowed-requires-clause-stands
 allowed-requires-clause-stands c =
     let s = c.self.inside in
     serving.is_node (map plain s.types.items) (lists_of s.configuration) c.self.invariant.holds c.args.self.now c.self.view_is c.args.role c.requires.role
-
-pub allowed-requires-clause-first : goal.allowed-requires-clause-first
-allowed-requires-clause-first c = moved_first (lists_of c.self.inside.configuration) c.args.role c.args.from _ c.message-first.ensures c.args.step.now c.requires.takes
 
 pub returns-in_err-node-clause-served : goal.returns-in_err-node-clause-served
 returns-in_err-node-clause-served c =
@@ -57,13 +58,10 @@ invariant_of-self-2 c =
 pub returns-clause-served : goal.returns-clause-served
 returns-clause-served c =
     let s = c.self.inside in
+    let waits : option_copied c.match-first_sent.source.1 ≡ slice_get (unreceived c.args.from c.args.role (steps s.configuration.log.keyed_steps)) 0 =
+    elim c.match-first_sent.branch [
+      | in-Some w ↦ grind (arith, w.source-is, w.in-Some.is, c.first_sent.ensures.message)
+      | in-None w ↦ grind (arith, w.source-is, w.in-None.is, c.first_sent.ensures.message)
+    ] in
     forwarding.done (map plain s.types.items) (lists_of s.configuration) c.self.invariant.holds c.args.self.now c.self.view_is c.args.role c.requires.role c.args.step.now c.in_ok-node.ensures.allowed c.in_ok-node.ensures.numbers
-    c.in_ok-node.node c.in_ok-node.ensures.follows (lists_of c.act.new.self) c.in_ok-id.ensures.acted c.in_ok-id.id c.in_ok-got.got _ refl c.in_ok-id.ensures.id (c.in_ok-got.ensures ∙ taken_first (lists_of c.self.inside.configuration) c.args.role c.args.from _ c.message-first.ensures c.args.step.now c.requires.takes)
-
-pub returns-clause-source : goal.returns-clause-source
-returns-clause-source c =
-    subst (λ (m : SessionState). c.in_ok-got.got ≡ taken_of m.state.history c.first_sent-source.result) c.self.view_is
-    (c.in_ok-got.ensures ∙ c.message-first.ensures ∙ sym c.first_sent-source.ensures.message)
-
-pub returns-clause-sent : goal.returns-clause-sent
-returns-clause-sent c = subst (λ (m : SessionState). IsSent m.state.history c.first_sent-source.result) c.self.view_is c.first_sent-source.ensures.gives
+    c.in_ok-node.node c.in_ok-node.ensures.follows (lists_of c.act.new.self) c.in_ok-id.ensures.acted c.in_ok-id.id c.in_ok-got.got _ refl c.in_ok-id.ensures.id (c.in_ok-got.ensures ∙ taken_first (lists_of c.self.inside.configuration) c.args.role c.args.from _ waits c.args.step.now c.requires.takes)

@@ -1,10 +1,10 @@
--- `write_parts` meets its clauses `ok` and `err`, by the lemmas of CommandLines and Writing.
+-- `push_command` meets its clauses `ok` and `err`, by the lemmas of CommandLines and Writing.
 use Rattle.std.proofs.Common.{ℕ, List, sym, ap, ◌∙◌, ◌++◌}
 use Rattle.std.proofs.lemmas.Bool.{false≢true}
 use Rattle.mps_line.specs.Commands.{verb_word, verb_of, arguments}
 use Rattle.mps_line.proofs.CommandLines.{lone_read, takes_none}
 use Rattle.mps_line.proofs.Writing.{word_written, still_in_front}
-use Rattle.mps_line.proofs.write_commands.write_parts.Goals as goal
+use Rattle.mps_line.proofs.write_commands.push_command.Goals as goal
 
 pub returns-then-not-takes_arguments-clause-ok : goal.returns-then-not-takes_arguments-clause-ok
 returns-then-not-takes_arguments-clause-ok c =
