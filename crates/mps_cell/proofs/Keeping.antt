@@ -1,5 +1,5 @@
 -- Each step keeps the rule.
-use Rattle.std.proofs.Common.{◌≡◌, ◌≢◌, ℕ, zero, suc, ◌+◌, ◌*◌, ◌/◌, ◌%◌, ◌<◌, ◌≤◌, ◌==◌, Bool, false, List, [], ◌∷◌, ◌++◌, length, set, get_or, sym, refl, ap, ◌∙◌, subst, ⊎_elim, inl, inr, arith, Option, Some, None, length-set, length-append, ne_eqb, eq-eqb, if◌then◌else◌, le_refl}
+use Rattle.std.proofs.Common.{◌≡◌, ◌≢◌, ℕ, zero, suc, ◌+◌, ◌*◌, ◌/◌, ◌%◌, ◌<◌, ◌≤◌, ◌==◌, Bool, false, List, [], ◌∷◌, ◌++◌, length, set, get_or, sym, refl, ap, ◌∙◌, subst, ⊎_elim, inl, inr, arith, Option, Some, None, length-set, length-append, ne_eqb, eq-eqb, if◌then◌else◌, le_refl, append_assoc}
 use Rattle.std.proofs.lemmas.List.{append-nil}
 use Rattle.std.proofs.lemmas.Bool.{eqb-true, cases_eq}
 use mathlib.Core.Option as maybe
@@ -7,10 +7,12 @@ use lib.ListN.{get_elem?}
 use Rattle.atomic_table.specs.Table.{State, Me, Act, Valid, carried_after, keeps, takes, gives, step, stepped, Allows, Splits, Joins, opening}
 use Rattle.atomic_table.proofs.Lists.{exchanged, set_else, set_here, at_last}
 use Rattle.mps_room.specs.RoomState.{RoomState}
+use Rattle.mps_room.specs.Journal.{IsLegal}
 use Rattle.mps_room.specs.declared.entry.Entry.{Entry}
+use Rattle.mps_room.specs.declared.numbers.Numbers.{Numbers}
 use Rattle.mps_cell.specs.Openings.{Opening, opening_of, room_of, IsLegalIn}
 use Rattle.mps_cell.specs.Views.{Part, SeatView, fresh_parts, first_view, part_of, looked, took, gave, without_first_part, first_part_alone, without_first, first_alone, spent}
-use Rattle.mps_cell.specs.Rule.{IsJournaled, Rests, AllShow, AllHere, AllOther, AllApart, HasRole, RestsOn, noted_by, word_of, home_of, resting, ShowsLength, Looks, Tries, Gives}
+use Rattle.mps_cell.specs.Rule.{IsJournaled, StartsWith, Rests, AllShow, AllHere, AllOther, AllApart, HasRole, RestsOn, noted_by, word_of, home_of, resting, ShowsLength, Looks, Tries, Gives}
 use Rattle.mps_cell.specs.Private.Rule.{with_room, Grows}
 use Rattle.mps_cell.proofs.Lists.{inside, at_end, seats_stay, raise_all, raise_here, raise_apart, raise_has, grow_all, elsewhere, moved, moved_here, still_here, still_rests, rests_longer, rests_moved, has_other}
 
@@ -38,6 +40,7 @@ unmoved o s r id me b at = let n : ℕ = get_or s.words 0 0 in let mine = r.seat
   away = r.away;
   owner = r.owner;
   legal = r.legal;
+  begins = r.begins;
   words = ap (λ ws. set ws 0 (get_or ws 0 0)) r.words;
   homes = r.homes;
   placed = λ t e. let p = r.placed t e in omega (arith, length-set s.views id (looked n b me.0));
@@ -80,6 +83,7 @@ tries o slots id me p ps old new some_part even next s r _ at _ = let n : ℕ = 
         away = Some id;
         owner = r.owner;
         legal = r.legal;
+        begins = r.begins;
         words = ap (λ (ws : List ℕ). set ws 0 new) r.words ∙ ap (λ (k : ℕ). k ∷ []) (let z : new ≡ 2 * length r.journal + 1 = omega arith in z);
         homes = ap (λ (hs : List (maybe.Option RoomState)). set hs 0 maybe.none) homes;
         placed = λ t e. let i = inside s.views id me.0 at in let same : id ≡ t = cc in omega (arith, length-set s.views id w);
@@ -98,6 +102,12 @@ tries o slots id me p ps old new some_part even next s r _ at _ = let n : ℕ = 
 noted_is : (a : Option ℕ) (i : ℕ) (k j : List Entry) → Some k ≡ noted_by a i j → (a ≡ Some i) × (k ≡ j)
 noted_is a i k j e = grind (arith, eqb-true)
 
+-- a journal that grew begins as it did
+grows_on : (role : ℕ) (k j begun : List Entry) → Grows role k j → StartsWith k begun → StartsWith j begun
+grows_on role k j begun (inl same) h = subst (λ (l : List Entry). StartsWith l begun) (sym same) h
+grows_on role k j begun (inr more) h =
+    (h.0 ++ more.0 ∷ [], more.2 ∙ (ap (λ (l : List Entry). l ++ more.0 ∷ []) h.1 ∙ append_assoc begun h.0 (more.0 ∷ [])))
+
 pub gives_back : (o : Opening) (slots id : ℕ) (p : Part) (k j : List Entry) (new : ℕ) → Grows p.role k j → IsLegalIn p.opening j → new ≡ 2 * length j
     → Allows (IsJournaled o) slots id (with_room p k (room_of p.opening j)) 0 (λ _. new) (λ _. Gives (step slots 0 new 0 maybe.none) (with_room p k (room_of p.opening j)) new)
 gives_back o slots id p k j new grows legal is s r _ at _ =
@@ -112,6 +122,7 @@ gives_back o slots id p k j new grows legal is s r _ at _ =
         away = None;
         owner = r.owner;
         legal = now;
+        begins = grows_on p.role r.journal j o.begun (subst (λ (l : List Entry). Grows p.role l j) was.1 grows) r.begins;
         words = ap (λ (ws : List ℕ). set ws 0 new) r.words ∙ ap (λ (n : ℕ). n ∷ []) is;
         homes = ap (λ (hs : List (maybe.Option RoomState)). set hs 0 (maybe.some (room_of p.opening j))) r.homes ∙ ap (λ (m : Opening). maybe.some (room_of m j) ∷ []) opening;
         placed = λ t e. absurd cc;
@@ -155,6 +166,7 @@ deals o id v p ps is s r at =
       away = r.away;
       owner = to;
       legal = r.legal;
+      begins = r.begins;
       words = r.words;
       homes = r.homes;
       placed = λ t e. let h = r.placed t e in omega (arith, n_is, length-append vs (right ∷ []));
@@ -184,6 +196,7 @@ divides o id p q b s r at =
       away = r.away;
       owner = to;
       legal = r.legal;
+      begins = r.begins;
       words = r.words;
       homes = r.homes;
       placed = λ t e. let h = r.placed t e in omega (arith, n_is, length-append vs (right ∷ []));
@@ -213,6 +226,7 @@ gathers o id other p q b b' s r at apart at' =
       away = r.away;
       owner = to;
       legal = r.legal;
+      begins = r.begins;
       words = r.words;
       homes = r.homes;
       placed = λ t e. let h = r.placed t e in omega (arith, length-set s.views id both, length-set vs other spent);
@@ -228,9 +242,10 @@ gathers o id other p q b b' s r at apart at' =
           (grind (arith, still_rests, has_other));
     }
 
-newcomers_show : (o : Opening) (role n : ℕ) → AllShow [] (fresh_parts o role n)
-newcomers_show o role zero = tt
-newcomers_show o role (suc n) = (record { legal = record { few = omega arith; each = tt }; begins = ([], refl); reached = omega arith; own = refl; all_seen = refl }, newcomers_show o (role + 1) n)
+newcomers_show : (o : Opening) → IsLegalIn o o.begun → (role n : ℕ) → AllShow o.begun (fresh_parts o role n)
+newcomers_show o legal role zero = tt
+newcomers_show o legal role (suc n) =
+    (record { legal = legal; begins = ([], sym (append-nil o.begun)); reached = le_refl (length o.begun); own = refl; all_seen = refl }, newcomers_show o legal (role + 1) n)
 
 newcomers_here : (o : Opening) (role n : ℕ) → AllHere o (λ _. 0) 0 (fresh_parts o role n)
 newcomers_here o role zero = tt
@@ -249,21 +264,23 @@ newcomers_have o role from zero low high = absurd (omega arith)
 newcomers_have o role from (suc n) low high =
     ⊎_elim (λ (same : role ≡ from). inl (sym same)) (λ (other : role ≡ from → ⊥). inr (newcomers_have o role (from + 1) n (omega arith) (omega arith))) (cases_eq role from)
 
-first_rests : (o : Opening) (seat : ℕ) (v : SeatView) → get_elem? (first_view o ∷ []) seat ≡ maybe.some v → Rests o [] None (λ _. 0) seat v
-first_rests o seat v e = grind (arith, newcomers_show, newcomers_here, newcomers_apart)
+first_rests : (o : Opening) → IsLegalIn o o.begun → (seat : ℕ) (v : SeatView) → get_elem? (first_view o ∷ []) seat ≡ maybe.some v → Rests o o.begun None (λ _. 0) seat v
+first_rests o legal seat v e = grind (arith, newcomers_show, newcomers_here, newcomers_apart)
 
-pub opens : (o : Opening) → IsJournaled o (opening (0 ∷ []) (room_of o [] ∷ []) (first_view o))
-opens o = record {
-  journal = [];
+pub opens : (o : Opening) → IsLegalIn o o.begun → IsJournaled o (opening (2 * length o.begun ∷ []) (room_of o o.begun ∷ []) (first_view o))
+opens o legal = record {
+  journal = o.begun;
   away = None;
   owner = λ _. 0;
-  legal = record { few = omega arith; each = tt };
+  legal = legal;
+  begins = ([], sym (append-nil o.begun));
   words = refl;
   homes = refl;
   placed = λ t e. absurd cc;
-  seats = first_rests o;
+  seats = first_rests o legal;
   rests = λ role some. record { view = first_view o; there = refl; has = newcomers_have o role 0 (length o.types) (omega arith) (omega arith) };
 }
 
-pub opens_with : (m x : RoomState) (n : ℕ) (items rest : List RoomState) → m.journal ≡ [] → x ≡ m → items ≡ rest ++ m ∷ [] → rest ≡ [] → IsJournaled (opening_of x n) (opening (0 ∷ []) items (first_view (opening_of x n)))
-opens_with m x n items rest blank is now none_else = grind (arith, opens (opening_of m n))
+pub opens_with : (m x : RoomState) (numbers : List Numbers) (n count : ℕ) (items rest : List RoomState) → IsLegal m.names m.types m.journal → count ≡ length m.journal → x ≡ m → items ≡ rest ++ m ∷ [] → rest ≡ []
+    → IsJournaled (opening_of x numbers n) (opening (2 * count ∷ []) items (first_view (opening_of x numbers n)))
+opens_with m x numbers n count items rest legal counted is now none_else = grind (arith, opens (opening_of m numbers n) legal)

@@ -77,7 +77,7 @@ abbrev pub home_of : Opening → Option ℕ → List Entry → maybe.Option Room
 home_of o None j = maybe.some (room_of o j)
 home_of o (Some t) j = maybe.none
 
--- There is one legal journal. At twice its length the room is at home with it, and no seat notes a journal. At one
+-- There is one legal journal, which begins with that of the opening. At twice its length the room is at home with it, and no seat notes a journal. At one
 -- more the room is out, and one seat alone notes it. What each seat knows is true of it. Each role rests on one seat,
 -- and on no other
 pub record IsJournaled (o : Opening) (s : State RoomState SeatView) : Type 0 where
@@ -85,6 +85,7 @@ pub record IsJournaled (o : Opening) (s : State RoomState SeatView) : Type 0 whe
   pub away : Option ℕ
   pub owner : ℕ → ℕ
   pub legal : IsLegalIn o journal
+  pub begins : StartsWith journal o.begun
   pub words : s.words ≡ word_of away journal ∷ []
   pub homes : s.homes ≡ home_of o away journal ∷ []
   pub placed : (t : ℕ) → away ≡ Some t → t < length s.views

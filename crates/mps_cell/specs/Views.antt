@@ -20,9 +20,10 @@ pub record SeatView : Type 0 where
   pub noted : Option (List Entry)
   pub was_out : Bool
 
--- what is known for a role at first: nothing
+-- what is known for a role at first: the journal with which the cell was opened
 abbrev pub fresh_part : Opening → ℕ → Part
-fresh_part o role = record { opening = o; role = role; seen = []; reported = 0; made = [] }
+fresh_part o role =
+    record { opening = o; role = role; seen = o.begun; reported = length o.begun; made = entries_of role o.begun }
 
 -- the same for so many roles, from this one on
 abbrev pub fresh_parts : Opening → ℕ → ℕ → List Part

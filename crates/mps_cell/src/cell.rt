@@ -1,6 +1,7 @@
 //! Cells: one room, which its passes call.
 ghost use Rattle.std.specs.Prelude.{◌≡◌, ◌≤◌, length, [], vec_capacity};
 ghost use Rattle.mps_cell.specs.Private.Origins.{opening_in};
+ghost use Rattle.mps_room.specs.Numbers.{newest_of};
 ghost use Rattle.mps_cell.specs.Views.{first_view};
 ghost use Rattle.mps_cell.specs.Cells.{fresh_below};
 
@@ -10,7 +11,7 @@ use crate::rule::{Journaled, SplitFirst};
 use crate::view::SeatView;
 use atomic_table::{Refused as NotMade, Seat, Table};
 use mps_base::{Role, Roles};
-use mps_room::Room;
+use mps_room::{Numbers, Room};
 use mps_session::Session;
 use std::alloc::{AllocError, Global};
 use std::marker::Model;
@@ -30,7 +31,10 @@ pub enum PassFault {
 /// The right to the passes of one cell.
 #[derive(Drop)]
 pub struct Deal {
+    // the seat of all roles
     first: Seat<Room, SeatView>,
+    // of each role
+    numbers: Vec<Numbers>,
 }
 
 impl Model for Deal {
@@ -38,33 +42,41 @@ impl Model for Deal {
     ghost use Rattle.std.specs.Coded.{codes};
     ghost use Rattle.mps_local.specs.Private.Codes.{coded_local};
     ghost use Rattle.mps_cell.specs.Cells.{Dealt};
+    ghost use Rattle.mps_room.specs.Numbers.{newest_of};
 
     ghost Value = { Dealt };
 
     ghost coded = { Prim.hlevel (codes, coded_local) };
 
-    ghost view = { λ d. record { cell = d.first.table_id; view = d.first.me.0 } };
+    ghost view = { λ d. record {
+      cell = d.first.table_id;
+      view = d.first.me.0;
+      newest = newest_of d.numbers.items;
+    } };
 
     ghost invariant = { λ d. d.first.me.1 ≡ [] };
 }
 
 impl Deal {
-    // The first seat by itself.
-    fn into_seat(self) -> Seat<Room, SeatView>
-        ensures cell { result.table_id ≡ self.cell }
-        ensures seat { result.me ≡ (self.view, []) }
+    // The seat and the numbered commands by themselves.
+    fn into_parts(self) -> (Seat<Room, SeatView>, Vec<Numbers>)
+        ensures cell { result.0.table_id ≡ self.cell }
+        ensures seat { result.0.me ≡ (self.view, []) }
+        ensures newest { newest_of result.1.items ≡ self.newest }
     {
-        let Deal { first } = self;
-        first
+        let Deal { first, numbers } = self;
+        (first, numbers)
     }
 }
 
 /// One room, which a pass for each role calls.
 #[derive(Drop)]
 pub struct Cell {
-    // the seat of all roles, until the passes are asked for
-    first: Option<Seat<Room, SeatView>>,
+    // until the passes are asked for
+    deal: Option<Deal>,
     names: Roles,
+    // how many entries the journal had as it was opened
+    begun: u64,
     table: Table<Room, SeatView, Origin, Journaled, Global>,
     // 1 where a call may sleep until the room is back
     waiting: AtomicU64,
@@ -85,10 +97,10 @@ impl Model for Cell {
     ghost view = { λ c. record {
       cell = c.table.shared.table_id;
       opening = opening_in c.table.shared.key;
-      given = is_none c.first;
+      given = is_none c.deal;
     } };
 
-    ghost invariant = { λ c. IsOpened c.table.shared.table_id (opening_in c.table.shared.key) c.names c.first };
+    ghost invariant = { λ c. IsOpened c.table.shared.table_id (opening_in c.table.shared.key) c.names c.begun c.deal };
 }
 
 impl Cell {
@@ -96,6 +108,7 @@ impl Cell {
     ghost use Rattle.mps_machine.specs.Machine.{initial};
     ghost use Rattle.mps_cell.specs.Meetings.{HasAllOf};
     ghost use Rattle.mps_cell.specs.Cells.{fresh_below, Closes, IsDealOf, opened_with};
+    ghost use Rattle.mps_cell.specs.Openings.{opening_of};
     ghost use Rattle.mps_cell.specs.declared.cell.PassFault.TheVariants.{Given};
 
     /// A cell with a room of this session, in which nothing was done yet. The number of its session is 0.
@@ -120,18 +133,37 @@ impl Cell {
         ensures opening { IfOk result (λ c. c.opening ≡ opened_with names session.types number) }
         ensures given { IfOk result (λ c. c.given ≡ false) }
     {
-        let kept = names.copy(alloc)?;
-        let mut slots = Vec::with_capacity(alloc, 1)?;
+        let numbers = Numbers::of_each(alloc, names.count())?;
         let room = Room::open(alloc, names, session);
+        Cell::open_with(alloc, room, numbers, number)
+    }
+
+    /// A cell around this room, of whose roles, in order, these are the newest numbered commands that were accepted. The
+    /// passes begin with the journal that the room has. Where memory runs out the room is dropped.
+    pub fn open_with(
+        alloc: Global,
+        room: Room,
+        numbers: Vec<Numbers>,
+        number: u64,
+    ) -> Result<Cell, AllocError>
+        requires count { length numbers.items ≡ length room.types }
+        ensures opening { IfOk result (λ c. c.opening ≡ opening_of room numbers.items number) }
+        ensures given { IfOk result (λ c. c.given ≡ false) }
+    {
+        let names = room.names().copy(alloc)?;
+        let begun = room.entries();
         let origin = Origin {
             room: Snapshot::of(&room),
+            numbers: Snapshot::of(&numbers),
             session: number,
         };
+        let mut slots = Vec::with_capacity(alloc, 1)?;
         slots.push_reserved(room);
-        match Table::new(alloc, &[0], slots, &origin) {
-            Ok((table, seat)) => Ok(Cell {
-                first: Some(seat),
-                names: kept,
+        match Table::new(alloc, &[2 * begun], slots, &origin) {
+            Ok((table, first)) => Ok(Cell {
+                deal: Some(Deal { first, numbers }),
+                names,
+                begun,
                 table,
                 waiting: AtomicU64::new(0),
                 alloc,
@@ -149,9 +181,7 @@ impl Cell {
         ensures once { IsSome result ↔ (self.old.given ≡ false) }
         ensures deal { IfSome result (IsDealOf self.old.cell self.old.opening) }
     {
-        Some(Deal {
-            first: self.first.take()?,
-        })
+        self.deal.take()
     }
 
     /// One pass for each role, in order.
@@ -162,14 +192,15 @@ impl Cell {
             ≡ fresh_below self.now.cell self.now.opening (length self.now.opening.types)) }
         ensures of_cell { IfOk result (λ v. All (λ p. p.cell ≡ self.now.cell) v.items) }
     {
-        let count = self.names.count();
-        let all = Vec::with_capacity(self.alloc, count)?;
+        let all = Vec::with_capacity(self.alloc, self.names.count())?;
+        let (first, numbers) = deal.into_parts();
         Ok(hand_out(
             &self.table.shared,
             &self.waiting,
             &self.names,
-            deal.into_seat(),
-            count as u8,
+            self.begun,
+            first,
+            numbers,
             all,
         ))
     }
@@ -195,8 +226,9 @@ impl Cell {
         ensures room { IfSome result (Closes self.opening) }
     {
         let Cell {
-            first: _,
+            deal: _,
             names: _,
+            begun: _,
             table,
             waiting: _,
             alloc: _,
@@ -215,8 +247,9 @@ impl Cell {
         ensures holds { IfSome result (λ room. HasAllOf leave room.journal) }
     {
         let Cell {
-            first: _,
+            deal: _,
             names: _,
+            begun: _,
             table,
             waiting: _,
             alloc: _,
@@ -229,28 +262,33 @@ impl Cell {
     }
 }
 
-// A pass for each of so many roles. Each takes the part of its role from the first seat.
+// A pass for each role, with its numbers. Each takes the part of its role from the first seat.
 fn hand_out<'a>(
     shared: &'a SharedTable,
     waiting: &'a AtomicU64,
     names: &'a Roles,
+    begun: u64,
     mut first: Seat<Room, SeatView>,
-    count: u8,
+    numbers: Vec<Numbers>,
     mut all: Vec<Pass<'a>>,
 ) -> Vec<Pass<'a>>
     requires cell { first.table_id ≡ shared.now.table_id }
     requires word { shared.now.table_id.words ≡ 1 }
     requires first { first.me ≡ (first_view (opening_in shared.now.key), []) }
-    requires count { count ≡ length (opening_in shared.now.key).types }
+    requires count { length numbers.items ≡ length (opening_in shared.now.key).types }
+    requires newest { newest_of numbers.items ≡ (opening_in shared.now.key).newest }
+    requires begun { begun ≡ length (opening_in shared.now.key).begun }
     requires names { names.now ≡ (opening_in shared.now.key).names }
+    requires few { length numbers.items ≤ 8 }
     requires none { all.items ≡ [] }
-    requires space { count ≤ vec_capacity all }
-    ensures passes { result.items
-        ≡ fresh_below shared.now.table_id (opening_in shared.now.key) count }
+    requires space { length numbers.items ≤ vec_capacity all }
+    ensures passes { result.items ≡ fresh_below shared.now.table_id (opening_in shared.now.key)
+        (length (opening_in shared.now.key).types) }
 {
-    for place in 0..count {
+    for own in numbers {
         let seat = shared.split_seat::<SplitFirst>(&mut first);
-        all.push_reserved(Pass::fresh(shared, waiting, names, seat, Role::new(place)));
+        let role = Role::new(all.len() as u8);
+        all.push_reserved(Pass::fresh(shared, waiting, names, seat, role, begun, own));
     }
     all
 }

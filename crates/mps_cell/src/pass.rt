@@ -1,5 +1,5 @@
 //! Passes, with which the roles of a session call it.
-ghost use Rattle.std.specs.Prelude.{◌≡◌, ◌<◌, ◌≤◌, length, true, false, OnOk, OnErr, IfOk, IfErr, Some, None};
+ghost use Rattle.std.specs.Prelude.{◌≡◌, ◌<◌, ◌≤◌, length, true, false, OnOk, OnErr, IfOk, IfErr, Some, None, get_or};
 ghost use Rattle.std.specs.Ordering.{nat_cmp};
 ghost use Rattle.mps_cell.specs.Views.{part_of, fresh_part};
 ghost use Rattle.mps_cell.specs.Rule.{resting};
@@ -107,19 +107,24 @@ impl Leave {
 }
 
 impl<'a> Pass<'a> {
-    // The pass of a role that rests on this seat, as it is dealt.
+    // The pass of a role that rests on this seat, as it is dealt: it has seen the entries that the cell began with, and
+    // has the numbers that its role had by then.
     pub(crate) fn fresh(
         shared: &'a SharedTable,
         waiting: &'a AtomicU64,
         names: &'a Roles,
         seat: Seat<Room, SeatView>,
         role: Role,
+        begun: u64,
+        numbers: Numbers,
     ) -> Pass<'a>
         requires cell { seat.table_id ≡ shared.now.table_id }
         requires word { shared.now.table_id.words ≡ 1 }
         requires names { names.now ≡ (part_of seat.me.0.parts).opening.names }
         requires seat { seat.me ≡ resting (fresh_part (part_of seat.me.0.parts).opening role) false }
         requires some { role < length (part_of seat.me.0.parts).opening.types }
+        requires begun { begun ≡ length (part_of seat.me.0.parts).opening.begun }
+        requires newest { numbers.newest ≡ get_or (part_of seat.me.0.parts).opening.newest role None }
         ensures fresh { result ≡ fresh seat.table_id (part_of seat.me.0.parts).opening role }
     {
         Pass {
@@ -128,8 +133,8 @@ impl<'a> Pass<'a> {
             names,
             seat,
             role,
-            seen: 0,
-            numbers: Numbers::new(),
+            seen: begun,
+            numbers,
         }
     }
 

@@ -1,17 +1,20 @@
 -- Cells, deals and rows.
-use Rattle.std.proofs.Common.{◌≡◌, ℕ, zero, suc, ◌+◌, ◌⊎◌, List, [], ◌∷◌, ◌++◌, Option, Some, None, ◌<◌, length, refl, sym, ap, ◌∙◌, subst, arith, ⊎_elim, inl, inr, length-append}
-use Rattle.std.specs.Prelude.{slice_get, All, IfSome}
-use Rattle.std.proofs.lemmas.Option.{slice_get_within, slice_get-get_or}
+use Rattle.std.proofs.Common.{◌≡◌, ℕ, zero, suc, ◌+◌, ◌⊎◌, List, [], ◌∷◌, ◌++◌, Option, Some, None, ◌<◌, length, refl, sym, ap, ◌∙◌, subst, arith, ⊎_elim, inl, inr, length-append, Result, Ok, Err, IfOk}
+use Rattle.std.specs.Prelude.{slice_get, get_or, All, IfSome}
+use Rattle.std.proofs.lemmas.Option.{slice_get_within, slice_get-get_or, get_or_from_slice_get}
 use Rattle.std.proofs.lemmas.List.Elements.{All-nil, All-push, All-get_or}
 use Rattle.mps_local.specs.Local.{LocalType}
 use Rattle.mps_session.specs.SessionState.{SessionState}
 use Rattle.mps_room.specs.RoomState.{RoomState}
-use Rattle.mps_cell.specs.Openings.{Opening}
+use Rattle.mps_cell.specs.Openings.{Opening, opening_of}
+use Rattle.mps_cell.proofs.Dealing.{opened_blank}
+use Rattle.mps_keeper.specs.declared.restored_room.RestoredRoom.{RestoredRoom}
+use Rattle.mps_room.specs.declared.numbers.Numbers.{Numbers}
 use Rattle.mps_cell.specs.Calls.{Known}
 use Rattle.mps_cell.specs.Cells.{Opened, Closes, Dealt, IsDealOf, fresh, fresh_below, opened_with}
 use Rattle.mps_hub.specs.Places.{IsOfCell}
 use Rattle.mps_hub.specs.Private.Places.{AreNumbered, AtHome}
-use Rattle.mps_hub.specs.Halls.{AreCellsOf, AreCellsWith, AreClosed, AreDeals}
+use Rattle.mps_hub.specs.Halls.{Hall, AreCellsAround, AreCellsOf, AreCellsWith, AreClosed, AreDeals, AreRoomsOf}
 
 -- what stands in a list with one item more
 pub get_push : {A : Type 0} (xs : List A) (y : A) (i : ℕ) (z : A) → slice_get (xs ++ y ∷ []) i ≡ Some z → (slice_get xs i ≡ Some z) ⊎ ((i ≡ length xs) × (y ≡ z))
@@ -33,24 +36,70 @@ pub at_home_none : (o : Opened) (xs : List (Option Known)) → AtHome o xs → A
 at_home_none o xs h i k e =
     ⊎_elim (λ (old : slice_get xs i ≡ Some (Some k)). h i k old) (λ (new : (i ≡ length xs) × (None ≡ Some k)). let n = new.1 in absurd cc) (get_push xs None i (Some k) e)
 
--- one session more, and its cell
-pub cells_push : (names : List (List ℕ)) (first : ℕ) (sessions : List SessionState) (cells : List Opened) (s : SessionState) (c : Opened) → AreCellsOf names first sessions cells → c.opening ≡ opened_with names s.types (first + length cells)
-    → AreCellsOf names first (sessions ++ s ∷ []) (cells ++ c ∷ [])
-cells_push names first sessions cells s c h is = record {
-  count = omega (arith, length-append cells (c ∷ []), length-append sessions (s ∷ []), h.count);
+-- what holds of each element by its place holds of all, and back
+all_at : {A : Type 0} (P : A → Type 0) (xs : List A) → ((i : ℕ) (x : A) → slice_get xs i ≡ Some x → P x) → All P xs
+all_at P xs h = λ i d less. h i (get_or xs i d) (slice_get-get_or xs i d less)
+
+at_all : {A : Type 0} (P : A → Type 0) (xs : List A) (i : ℕ) (x : A) → All P xs → slice_get xs i ≡ Some x → P x
+at_all P xs i x all at =
+    let less = slice_get_within xs i x at in
+    subst P (get_or_from_slice_get xs i x x at) (All-get_or P xs i x less all)
+
+-- one room more, and its cell
+pub around_push : (first : ℕ) (rooms : List RestoredRoom) (cells : List Opened) (r : RestoredRoom) (c : Opened) → AreCellsAround first rooms cells → c.opening ≡ opening_of r.room r.numbers.items (first + length cells)
+    → AreCellsAround first (rooms ++ r ∷ []) (cells ++ c ∷ [])
+around_push first rooms cells r c h is = record {
+  count = omega (arith, length-append cells (c ∷ []), length-append rooms (r ∷ []), h.count);
   each = λ i o e.
       ⊎_elim
-      (λ (old : slice_get cells i ≡ Some o). let was = h.each i o old in (was.0, get_more sessions (s ∷ []) i was.0 was.1, was.2))
+      (λ (old : slice_get cells i ≡ Some o). let was = h.each i o old in (was.0, get_more rooms (r ∷ []) i was.0 was.1, was.2))
       (λ (new : (i ≡ length cells) × (c ≡ o)). (
-        s,
-        subst (λ (n : ℕ). slice_get (sessions ++ s ∷ []) n ≡ Some s) (sym (new.0 ∙ h.count)) (get_last sessions s),
-        ap (λ (x : Opened). x.opening) (sym new.1) ∙ is ∙ ap (λ (n : ℕ). opened_with names s.types (first + n)) (sym new.0),
+        r,
+        subst (λ (n : ℕ). slice_get (rooms ++ r ∷ []) n ≡ Some r) (sym (new.0 ∙ h.count)) (get_last rooms r),
+        ap (λ (x : Opened). x.opening) (sym new.1) ∙ is ∙ ap (λ (n : ℕ). opening_of r.room r.numbers.items (first + n)) (sym new.0),
       ))
       (get_push cells c i o e);
 }
 
-pub numbered : (names : List (List ℕ)) (first : ℕ) (sessions : List SessionState) (cells : List Opened) → AreCellsOf names first sessions cells → AreNumbered names first cells
-numbered names first sessions cells h i o e = let is = (h.each i o e).2 in (ap (λ (x : Opening). x.names) is, ap (λ (x : Opening). x.session) is)
+-- one session more, and its room
+pub rooms_push : (names : List (List ℕ)) (sessions : List SessionState) (rooms : List RestoredRoom) (s : SessionState) (r : RestoredRoom) → AreRoomsOf names sessions rooms → r.room ≡ record { names = names; types = s.types; journal = [] }
+    → All (λ (n : Numbers). n.newest ≡ None) r.numbers.items → AreRoomsOf names (sessions ++ s ∷ []) (rooms ++ r ∷ [])
+rooms_push names sessions rooms s r h is none = record {
+  count = omega (arith, length-append rooms (r ∷ []), length-append sessions (s ∷ []), h.count);
+  each = λ i x e.
+      ⊎_elim
+      (λ (old : slice_get rooms i ≡ Some x). let was = h.each i x old in (was.0, get_more sessions (s ∷ []) i was.0 was.1, was.2, was.3))
+      (λ (new : (i ≡ length rooms) × (r ≡ x)). (
+        s,
+        subst (λ (n : ℕ). slice_get (sessions ++ s ∷ []) n ≡ Some s) (sym (new.0 ∙ h.count)) (get_last sessions s),
+        ap (λ (y : RestoredRoom). y.room) (sym new.1) ∙ is,
+        subst (λ (y : RestoredRoom). All (λ (n : Numbers). n.newest ≡ None) y.numbers.items) new.1 none,
+      ))
+      (get_push rooms r i x e);
+}
+
+-- cells around new rooms are those of their sessions
+pub cells_of_new : (names : List (List ℕ)) (first : ℕ) (sessions : List SessionState) (rooms : List RestoredRoom) (cells : List Opened) → AreRoomsOf names sessions rooms → AreCellsAround first rooms cells → AreCellsOf names first sessions cells
+cells_of_new names first sessions rooms cells new around = record {
+  count = around.count ∙ new.count;
+  each = λ i o e. let cell = around.each i o e in let room = new.each i cell.0 cell.1 in (
+    room.0,
+    room.1,
+    opened_blank names room.0.types (first + i) cell.0.room cell.0.numbers.items o.opening cell.2 room.2 room.3 (cell.0.each ∙ ap (λ (m : RoomState). length m.types) room.2),
+  );
+}
+
+pub hub_of_new : {E : Type 0} (r : Result Hall E) (names : List (List ℕ)) (first : ℕ) (sessions : List SessionState) (rooms : List RestoredRoom) → AreRoomsOf names sessions rooms → IfOk r (λ (h : Hall). AreCellsAround first rooms h.cells) → IfOk r (λ (h : Hall). AreCellsOf names first sessions h.cells)
+hub_of_new (Ok h) names first sessions rooms new around = cells_of_new names first sessions rooms h.cells new around
+hub_of_new (Err e) names first sessions rooms new around = tt
+
+-- new rooms have these names
+pub new_rooms_named : (names : List (List ℕ)) (sessions : List SessionState) (rooms : List RestoredRoom) → AreRoomsOf names sessions rooms → All (λ (r : RestoredRoom). r.room.names ≡ names) rooms
+new_rooms_named names sessions rooms new = all_at (λ (r : RestoredRoom). r.room.names ≡ names) rooms (λ i r e. ap (λ (m : RoomState). m.names) (new.each i r e).2)
+
+pub numbered : (names : List (List ℕ)) (first : ℕ) (rooms : List RestoredRoom) (cells : List Opened) → All (λ (r : RestoredRoom). r.room.names ≡ names) rooms → AreCellsAround first rooms cells → AreNumbered names first cells
+numbered names first rooms cells named h i o e =
+    let cell = h.each i o e in (ap (λ (x : Opening). x.names) cell.2 ∙ at_all (λ (r : RestoredRoom). r.room.names ≡ names) rooms i cell.0 named cell.1, ap (λ (x : Opening). x.session) cell.2)
 
 -- cells of sessions that are all alike
 pub all_alike : (names : List (List ℕ)) (types : List LocalType) (first n : ℕ) (sessions : List SessionState) (cells : List Opened) (m : SessionState) → All (λ (s : SessionState). s ≡ m) sessions → m.types ≡ types → length sessions ≡ n → AreCellsOf names first sessions cells → AreCellsWith names types first n cells

@@ -6,5 +6,4 @@ pub mod Joining
 pub mod Cells
 pub mod Crossing
 pub mod Telling
-pub mod Placing
 pub mod Unserved

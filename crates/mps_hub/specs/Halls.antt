@@ -1,10 +1,12 @@
 -- What a clause sees of a hub.
-use Rattle.std.specs.Prelude.{◌≡◌, ℕ, ◌+◌, Bool, List, Option, Some, slice_get, length}
+use Rattle.std.specs.Prelude.{◌≡◌, ℕ, ◌+◌, Bool, List, [], Option, None, Some, slice_get, length, All}
 use Rattle.mps_local.specs.Local.{LocalType}
 use Rattle.mps_machine.specs.Machine.{initial}
 use Rattle.mps_session.specs.SessionState.{SessionState}
 use Rattle.mps_room.specs.RoomState.{RoomState}
 use Rattle.mps_cell.specs.Cells.{Opened, Closes, Dealt, IsDealOf, opened_with}
+use Rattle.mps_cell.specs.Openings.{opening_of}
+use Rattle.mps_keeper.specs.declared.restored_room.RestoredRoom.{RestoredRoom}
 
 -- the names of the roles, the number of the first session, a cell for each session, and whether the passes were given
 pub record Hall : Type 0 where
@@ -12,6 +14,14 @@ pub record Hall : Type 0 where
   pub first : ℕ
   pub cells : List Opened
   pub given : Bool
+
+-- there is a room of these names for each session, in order, in which nothing was done yet
+pub record AreRoomsOf (names : List (List ℕ)) (sessions : List SessionState) (rooms : List RestoredRoom) : Type 0 where
+  pub count : length rooms ≡ length sessions
+  pub each : (i : ℕ) (r : RestoredRoom) → slice_get rooms i ≡ Some r
+      → (s : SessionState) × (slice_get sessions i ≡ Some s)
+      × (r.room ≡ record { names = names; types = s.types; journal = [] })
+      × All (λ n. n.newest ≡ None) r.numbers.items
 
 -- nothing was done in the session, and it has as many roles as there are names
 abbrev pub IsNew : List (List ℕ) → SessionState → Type 0
@@ -24,6 +34,13 @@ pub record AreCellsOf (names : List (List ℕ)) (first : ℕ) (sessions : List S
   pub count : length cells ≡ length sessions
   pub each : (i : ℕ) (o : Opened) → slice_get cells i ≡ Some o
       → (s : SessionState) × (slice_get sessions i ≡ Some s) × (o.opening ≡ opened_with names s.types (first + i))
+
+-- there is a cell around each room, in order, with the room's numbered commands and its number, which is this one for the
+-- first
+pub record AreCellsAround (first : ℕ) (rooms : List RestoredRoom) (cells : List Opened) : Type 0 where
+  pub count : length cells ≡ length rooms
+  pub each : (i : ℕ) (o : Opened) → slice_get cells i ≡ Some o
+      → (r : RestoredRoom) × (slice_get rooms i ≡ Some r) × (o.opening ≡ opening_of r.room r.numbers.items (first + i))
 
 -- there are so many cells, each opened with these names, these types and its number, which is this one for the first
 pub record AreCellsWith (names : List (List ℕ)) (types : List LocalType) (first n : ℕ) (cells : List Opened)

@@ -4,4 +4,3 @@ pub mod Halls
 pub mod Connections
 pub mod Private
 pub mod Serving
-pub mod Restoring

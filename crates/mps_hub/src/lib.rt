@@ -18,7 +18,6 @@ mod limits;
 mod lobby;
 pub(crate) mod lock;
 mod patience;
-pub mod restoring;
 pub mod server;
 pub mod sessions;
 
@@ -26,7 +25,7 @@ pub use attending::{Attended, PassGuest, Serving};
 pub use desk::{Desk, JoinFault};
 pub use limits::Limits;
 pub use lobby::MAX_OPEN;
-pub use mps_keeper::{Gate, RestoreFault, Unguarded};
+pub use mps_keeper::{Gate, RestoredRoom, Unguarded};
 pub use patience::FIRST_LINE;
 pub use server::{ServeFault, Served, serve, serve_recorded, serve_with};
 pub use sessions::{Hub, HubDeal};

@@ -3,15 +3,17 @@ ghost use Rattle.std.specs.Prelude.{◌≡◌, ◌≢◌, ◌+◌, ◌≤◌, �
 ghost use Rattle.std.specs.Prelude.{IfErr, IfSome, IsSome, IsErrOf, All};
 ghost use Rattle.mps_local.specs.Local.{plain};
 ghost use Rattle.mps_machine.specs.Machine.{initial};
-ghost use Rattle.mps_cell.specs.Cells.{IsDealOf, opened_with};
+ghost use Rattle.mps_cell.specs.Cells.{IsDealOf};
+ghost use Rattle.mps_cell.specs.Openings.{opening_of};
 ghost use Rattle.mps_cell.specs.declared.cell.PassFault.TheVariants.{Given};
 ghost use Rattle.mps_session.specs.Peers.{KeepsShut};
-ghost use Rattle.mps_hub.specs.Halls.{AreCellsOf, AreCellsWith, AreClosed, AreDeals, IsNew};
+ghost use Rattle.mps_hub.specs.Halls.{AreCellsAround, AreCellsOf, AreCellsWith, AreClosed, AreDeals, AreRoomsOf, IsNew};
 ghost use Rattle.mps_hub.specs.Places.{IsOfCell};
 
 use crate::desk::{Desk, Row};
 use mps_base::Roles;
 use mps_cell::{Cell, Deal, Pass, PassFault};
+use mps_keeper::RestoredRoom;
 use mps_local::{Local, copy_all};
 use mps_room::Room;
 use mps_session::{OpenFault, Session};
@@ -65,18 +67,13 @@ impl Model for Hub {
         × IfSome h.deals (λ v. AreDeals h.cells.items v.items) };
 }
 
-// A cell of the session with this number, and the right to its passes.
-fn cell_of(
-    alloc: Global,
-    names: &Roles,
-    session: Session,
-    number: u64,
-) -> Result<(Cell, Deal), AllocError>
-    requires { IsNew names.now session }
-    ensures opening { IfOk result (λ r. r.0.opening ≡ opened_with names.now session.types number) }
+// A cell around the room, of the session with this number, and the right to its passes.
+fn cell_of(alloc: Global, room: RestoredRoom, number: u64) -> Result<(Cell, Deal), AllocError>
+    ensures opening { IfOk result (λ r. r.0.opening ≡ opening_of room.room room.numbers.items number) }
     ensures deal { IfOk result (λ r. IsDealOf r.0.cell r.0.opening r.1) }
 {
-    let mut cell = Cell::open_numbered(alloc, names.copy(alloc)?, session, number)?;
+    let RestoredRoom { room, numbers } = room;
+    let mut cell = Cell::open_with(alloc, room, numbers, number)?;
     match cell.deal() {
         Some(deal) => Ok((cell, deal)),
         None => unreachable!(),
@@ -89,6 +86,22 @@ fn session_of(alloc: Global, types: &[Local]) -> Result<Session, OpenFault>
     ensures fault { IfErr result (λ fault. fault ≢ OpenFault.Memory → KeepsShut (map plain types.now) fault) }
 {
     Session::open(alloc, copy_all(alloc, types)?)
+}
+
+// A room of these names for each session, in order.
+fn rooms_of(
+    alloc: Global,
+    names: &Roles,
+    sessions: Vec<Session>,
+) -> Result<Vec<RestoredRoom>, AllocError>
+    requires { All (IsNew names.now) sessions.items }
+    ensures { IfOk result (λ rooms. AreRoomsOf names.now sessions.items rooms.items) }
+{
+    let mut rooms = Vec::with_capacity(alloc, sessions.len())?;
+    for session in sessions {
+        rooms.push_reserved(RestoredRoom::new(alloc, names.copy(alloc)?, session)?);
+    }
+    Ok(rooms)
 }
 
 // So many sessions with these types.
@@ -138,7 +151,9 @@ impl Hub {
         Hub::of_numbered(alloc, names, 1, sessions)
     }
 
-    /// The same, where the first session has that number, and those after it the next ones.
+    /// A hub of these sessions, in their order, in which nothing was done yet, where the first has that number, and those
+    /// after it the next ones. Where memory runs out they are dropped.
+    #[tactic(auto, using(crate::proofs::Cells::new_rooms_named))]
     pub fn of_numbered(
         alloc: Global,
         names: &Roles,
@@ -153,10 +168,31 @@ impl Hub {
         ensures given { IfOk result (λ h. h.given ≡ false) }
         ensures cells { IfOk result (λ h. AreCellsOf names.now first sessions.items h.cells) }
     {
-        let mut cells = Vec::with_capacity(alloc, sessions.len())?;
-        let mut deals = Vec::with_capacity(alloc, sessions.len())?;
-        for session in sessions {
-            let (cell, deal) = cell_of(alloc, names, session, first + cells.len() as u64)?;
+        let rooms = rooms_of(alloc, names, sessions)?;
+        Hub::of_restored(alloc, names, first, rooms)
+    }
+
+    /// A hub of these rooms, in their order, each with its roles' numbered commands, where the first session has that
+    /// number, and those after it the next ones. Where memory runs out they are dropped.
+    #[tactic(auto, using(crate::proofs::Cells::numbered))]
+    pub fn of_restored(
+        alloc: Global,
+        names: &Roles,
+        first: u64,
+        rooms: Vec<RestoredRoom>,
+    ) -> Result<Hub, AllocError>
+        requires number { first ≤ 2 ^ 63 }
+        requires some { (1 ≤ length rooms.items) × (length rooms.items ≤ 16) }
+        requires named { All (λ r. r.room.names ≡ names.now) rooms.items }
+        ensures names { IfOk result (λ h. h.names ≡ names.now) }
+        ensures first { IfOk result (λ h. h.first ≡ first) }
+        ensures given { IfOk result (λ h. h.given ≡ false) }
+        ensures cells { IfOk result (λ h. AreCellsAround first rooms.items h.cells) }
+    {
+        let mut cells = Vec::with_capacity(alloc, rooms.len())?;
+        let mut deals = Vec::with_capacity(alloc, rooms.len())?;
+        for room in rooms {
+            let (cell, deal) = cell_of(alloc, room, first + cells.len() as u64)?;
             cells.push_reserved(cell);
             deals.push_reserved(deal);
         }

@@ -4,5 +4,4 @@ pub mod Counting
 pub mod Recording
 pub mod Restoring
 pub mod Rerunning
-pub mod Remaking
-pub mod Staying
+pub mod Restarting

@@ -6,4 +6,4 @@ pub mod Trails
 pub mod BookParts
 pub mod Restored
 pub mod RestoredFaults
-pub mod Remade
+pub mod Restarted

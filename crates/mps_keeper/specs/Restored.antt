@@ -1,74 +1,69 @@
--- What restoring does to callers.
-use Rattle.std.specs.Prelude.{◌≡◌, ◌≢◌, ℕ, true, false, List, [], ◌∷◌, ◌++◌, Option, None, Some, slice_get, slice_set}
+-- What restoring does to a session.
+use Rattle.std.specs.Prelude.{◌≡◌, ◌⊎◌, ℕ, ◌+◌, ⊤, false, List, [], ◌∷◌, ◌++◌, Option, None, Some, get_or, slice_set}
 use Rattle.mps_command.specs.declared.answer.Answer.{Answer}
-use Rattle.mps_command.specs.declared.answer.Answer.TheVariants as answers
-use Rattle.mps_command.specs.declared.answer.Refusal.TheVariants.{Memory}
 use Rattle.mps_command.specs.declared.command.Command.{Command}
-use Rattle.mps_room.specs.Journal.{is_accepted}
-use Rattle.mps_room.specs.Numbers.{IsFresh, IsNumbered}
-use Rattle.mps_room.specs.declared.numbers.Told.{Told}
-use Rattle.mps_room.specs.declared.numbers.Told.TheVariants.{Fresh, Refused}
-use Rattle.mps_room.specs.declared.caller.Caller.{Ghosts}
 use Rattle.mps_line.specs.JournalLines.{SpellsJournalLine}
+use Rattle.mps_local.specs.Local.{LocalType}
+use Rattle.mps_room.specs.Callers.{entry}
+use Rattle.mps_room.specs.Journal.{answer_to, is_accepted, IsEntryAfter}
+use Rattle.mps_room.specs.Numbers.{last_of, newest_of}
+use Rattle.mps_room.specs.declared.entry.Entry.{Entry}
+use Rattle.mps_room.specs.declared.numbers.Numbered.{Numbered}
+use Rattle.mps_keeper.specs.declared.restored_room.RestoredRoom.{RestoredRoom}
 
-module _ {C : Type 0} (caller : Ghosts C) where
-  -- a call without a number that was accepted
-  pub record IsPlain (c : C) (command : Command) (d : C) : Type 0 where
+-- how a session stands: its journal, and each role's newest numbered command that was accepted
+pub record Standing : Type 0 where
+  pub journal : List Entry
+  pub newest : List (Option Numbered)
+
+abbrev pub standing_of : RestoredRoom → Standing
+standing_of r = record { journal = r.room.journal; newest = newest_of r.numbers.items }
+
+-- a command may have this number, or none: it is the one after that of its role's newest
+abbrev pub IsNext : Option Numbered → Option ℕ → Type 0
+IsNext newest None = ⊤
+IsNext newest (Some n) = n ≡ last_of newest + 1
+
+-- each role's newest numbered command, after one of this role was accepted with this number, or none, and this answer
+abbrev pub kept_after : List (Option Numbered) → (role : ℕ) → Option ℕ → Answer → List (Option Numbered)
+kept_after newest role None answer = newest
+kept_after newest role (Some n) answer = slice_set newest role (Some (record { number = n; answer = answer }))
+
+module _ (names : List (List ℕ)) (types : List LocalType) where
+  -- the role's command joined the journal, with the answer that it gets after the entries before it; its number, where it
+  -- has one, is the role's next, and the role's newest from then on
+  pub record IsCalled (before : Standing) (role : ℕ) (number : Option ℕ) (command : Command) (after : Standing)
+      : Type 0 where
     pub answer : Answer
-    pub call : caller.calls c command answer d
-    pub accepted : is_accepted answer ≡ true
-    pub last_stays : caller.last d ≡ caller.last c
-    pub kept_stays : caller.kept d ≡ caller.kept c
+    pub follows : IsEntryAfter names types before.journal (entry role command answer)
+    pub next : IsNext (get_or before.newest role None) number
+    pub joined : after.journal ≡ before.journal ++ entry role command answer ∷ []
+    pub kept : after.newest ≡ kept_after before.newest role number answer
 
-  -- the command was called and accepted, with its number if it has one
-  abbrev pub IsAcceptedOf : (c : C) → Option ℕ → Command → (d : C) → Type 0
-  IsAcceptedOf c None command d = IsPlain c command d
-  IsAcceptedOf c (Some n) command d = IsFresh caller.calls caller.last caller.kept c n command d
+  -- the role's command isn't accepted after the entries so far, or its number isn't the role's next
+  abbrev pub IsRefused : (before : Standing) → (role : ℕ) → Option ℕ → Command → Type 0
+  IsRefused before role number command =
+      (is_accepted (answer_to names types before.journal role command) ≡ false)
+      ⊎ (IsNext (get_or before.newest role None) number → ⊥)
 
-  -- a call without a number that was refused, and not for want of memory
-  pub record IsDenied (c : C) (command : Command) (d : C) : Type 0 where
-    pub answer : Answer
-    pub call : caller.calls c command answer d
-    pub denied : is_accepted answer ≡ false
-    pub not_memory : answer ≢ answers.Refused Memory
-
-  -- a command with a number that was refused, and not for want of memory, or wasn't the next
-  pub record IsUnplaced (c : C) (n : ℕ) (command : Command) (d : C) : Type 0 where
-    pub told : Told
-    pub came : IsNumbered caller.calls caller.last caller.kept c n command d told
-    pub other : told ≢ Fresh
-    pub not_memory : told ≢ Refused Memory
-
-  -- the command was not accepted
-  abbrev pub IsRefusedOf : (c : C) → Option ℕ → Command → (d : C) → Type 0
-  IsRefusedOf c None command d = IsDenied c command d
-  IsRefusedOf c (Some n) command d = IsUnplaced c n command d
-
-  -- the line's command was given to the caller at its role's place, and was not accepted, though there was memory
-  pub record LineRefused (names : List (List ℕ)) (callers : List C) (line : List ℕ) : Type 0 where
+  -- the line's command was called
+  pub record LineRestored (before : Standing) (line : List ℕ) (after : Standing) : Type 0 where
     pub role : ℕ
     pub number : Option ℕ
     pub command : Command
     pub spelled : SpellsJournalLine names line role number command
-    pub before : C
-    pub after : C
-    pub place : slice_get callers role ≡ Some before
-    pub called : IsRefusedOf before number command after
+    pub called : IsCalled before role number command after
 
-  -- the line's command was called by the caller at its role's place, and accepted
-  pub record LineRestored (names : List (List ℕ)) (callers : List C) (line : List ℕ) (callers' : List C) : Type 0 where
+  -- so each line's was, in order
+  abbrev pub LinesRestored : (before : Standing) → List (List ℕ) → (after : Standing) → Type 0
+  LinesRestored before [] after = after ≡ before
+  LinesRestored before (line ∷ lines) after =
+      (mid : Standing) × LineRestored before line mid × LinesRestored mid lines after
+
+  -- the line's command is refused
+  pub record LineRefused (before : Standing) (line : List ℕ) : Type 0 where
     pub role : ℕ
     pub number : Option ℕ
     pub command : Command
     pub spelled : SpellsJournalLine names line role number command
-    pub before : C
-    pub after : C
-    pub place : slice_get callers role ≡ Some before
-    pub called : IsAcceptedOf before number command after
-    pub set : callers' ≡ slice_set callers role after
-
-  -- so each line was, in order
-  abbrev pub LinesRestored : (names : List (List ℕ)) → (callers : List C) → List (List ℕ) → (callers' : List C) → Type 0
-  LinesRestored names callers [] callers' = callers' ≡ callers
-  LinesRestored names callers (line ∷ lines) callers' =
-      (mid : List C) × LineRestored names callers line mid × LinesRestored names mid lines callers'
+    pub refused : IsRefused before role number command

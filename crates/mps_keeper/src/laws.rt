@@ -1,5 +1,5 @@
 //! Laws of a recorded journal.
-ghost use Rattle.std.specs.Prelude.{◌≡◌, ◌≢◌, ℕ, List, [], ◌∷◌, ◌++◌, ◌⊎◌, Option, None, Some, slice_get, true, ◌*◌, ◌≤◌};
+ghost use Rattle.std.specs.Prelude.{◌≡◌, ◌≢◌, ℕ, List, [], ◌∷◌, ◌++◌, ◌⊎◌, Option, true, ◌*◌, ◌≤◌};
 ghost use Rattle.mps_command.specs.declared.command.Command.{Command};
 ghost use Rattle.mps_command.specs.declared.answer.Answer.{Answer};
 ghost use Rattle.mps_command.specs.declared.answer.Answer.TheVariants.{Refused};
@@ -7,9 +7,11 @@ ghost use Rattle.mps_command.specs.declared.answer.Refusal.TheVariants.{Memory};
 ghost use Rattle.mps_local.specs.Local.{LocalType};
 ghost use Rattle.mps_room.specs.Journal.{grown, answer_to, IsLegal, MayAnswer};
 ghost use Rattle.mps_room.specs.declared.entry.Entry.{Entry};
-ghost use Rattle.mps_keeper.specs.Remade.{HasRemade};
-ghost use Rattle.mps_keeper.specs.Restored.{LinesRestored};
-ghost use Rattle.mps_keeper.specs.Trails.{RecordedOn, WrittenIsRecorded};
+ghost use Rattle.mps_base.specs.RoleLists.{AreDistinct};
+ghost use Rattle.mps_room.specs.declared.numbers.Numbered.{Numbered};
+ghost use Rattle.mps_keeper.specs.Restarted.{newest_after};
+ghost use Rattle.mps_keeper.specs.Restored.{LinesRestored, Standing};
+ghost use Rattle.mps_keeper.specs.Trails.{RecordedOn, SpellEntries, WrittenIsRecorded};
 ghost use Rattle.mps_keeper.specs.declared.guest.Guest.{Guest as GuestOf};
 ghost use Rattle.mps_keeper.specs.declared.keeper.TheConstants.{LONGEST_LINE};
 ghost use Rattle.mps_keeper.specs.declared.restore.TheConstants.{MOST_BYTES};
@@ -22,6 +24,7 @@ use crate::guest::Guest;
 use crate::keeper::LONGEST_LINE;
 use crate::recorder::{Recordable, Recorder};
 use crate::restore::MOST_BYTES;
+use mps_line::laws::one_journal_line;
 use mps_room::{Caller, MAX_ENTRIES};
 
 /// The commands of a legal journal, run again from the opening: after those before it each gets the answer that it
@@ -59,15 +62,23 @@ pub fn what_is_answered_is_recorded<G: Gate + 'static, K: Recorder, C: Recordabl
         → WrittenIsRecorded ⟦<Guest<'static, G, K, C> as Caller>⟧ (λ r. K.taken r.recorder) asked before written after }
 {}
 
-/// After lines were restored, the caller at each place made the entries of its role's lines, in order, and no others,
-/// and its last number is the one to which their numbers lead.
-pub fn restoring_makes_the_entries<C: Caller>()
-    ensures { (names : List (List ℕ)) (place : ℕ) (lines : List (List ℕ)) (callers : List C) (callers_after : List C)
-        (before : C)
-        → LinesRestored C.Caller names callers lines callers_after → slice_get callers place ≡ Some before
-        → (after : C) × (slice_get callers_after place ≡ Some after)
-        × HasRemade (C.role before) (C.made before) (C.made after) (C.last before) (C.last after) names place lines }
-{}
+/// What was recorded of a legal journal, restored in a session in which nothing was done yet, is that journal: each entry
+/// in its place, of its role, with its command and its answer. And each role's newest numbered command, with its answer,
+/// is the one of its newest line with a number.
+pub fn a_restart_gives_the_journal_back()
+    ensures journal { (names : List (List ℕ)) (types : List LocalType) (journal : List Entry) (lines : List (List ℕ))
+        (numbers : List (Option ℕ)) (newest : List (Option Numbered)) (after : Standing)
+        → AreDistinct names → IsLegal names types journal → SpellEntries names lines numbers journal
+        → LinesRestored names types (record { journal = []; newest = newest }) lines after
+        → after.journal ≡ journal }
+    ensures newest { (names : List (List ℕ)) (types : List LocalType) (journal : List Entry) (lines : List (List ℕ))
+        (numbers : List (Option ℕ)) (newest : List (Option Numbered)) (after : Standing)
+        → AreDistinct names → IsLegal names types journal → SpellEntries names lines numbers journal
+        → LinesRestored names types (record { journal = []; newest = newest }) lines after
+        → after.newest ≡ newest_after newest numbers journal }
+{
+    one_journal_line();
+}
 
 /// The lines of a journal with as many entries as a room has at most, each the longest that there is, are no more bytes
 /// than are read.

@@ -13,10 +13,12 @@ pub mod laws;
 mod recordable;
 pub mod recorder;
 pub mod restore;
+pub mod restored_room;
 
 pub use book::{Book, NotRecorded};
 pub use gate::{Gate, Unguarded};
 pub use guest::Guest;
 pub use keeper::{Disk, Hold, Keeper, LONGEST_LINE};
 pub use recorder::{Recordable, Recorder};
-pub use restore::{RestoreFault, Restored, restore_from, restore_lines};
+pub use restore::{RestoreFault, Restored};
+pub use restored_room::RestoredRoom;

@@ -1,28 +1,29 @@
-//! How callers are brought to where a recorded journal left them.
-ghost use Rattle.std.specs.Prelude.{◌≡◌, ◌≢◌, ◌+◌, length, ℕ, Err, Ok, true, IsSome, IsTrue, false, ◌<◌, ◌^◌, IfOk};
-ghost use Rattle.std.specs.Prelude.{IfErr, OnOk};
-ghost use Rattle.mps_command.specs.Changes.{change_of};
+//! How a session is brought to where a recorded journal left it.
+ghost use Rattle.std.specs.Prelude.{◌≡◌, ◌≢◌, ◌+◌, length, ℕ, Err, Ok, true, None, IsTrue, false, ◌<◌, ◌^◌, ◌↔◌};
+ghost use Rattle.std.specs.Prelude.{IfOk, IfErr, OnOk, get_or};
 ghost use Rattle.mps_command.specs.declared.answer.Answer.TheVariants.{Refused as Denied};
 ghost use Rattle.mps_command.specs.declared.answer.Refusal.TheVariants as refusals;
-ghost use Rattle.mps_room.specs.Journal.{is_accepted};
-ghost use Rattle.mps_keeper.specs.Restored.{IsAcceptedOf, IsRefusedOf, LineRestored};
+ghost use Rattle.mps_keeper.specs.Restored.{IsCalled, IsNext, IsRefused, LineRestored, kept_after, standing_of};
 ghost use Rattle.mps_keeper.specs.RestoredFaults.{of_reading, IsRestoredTo, IsFirstFault, IsFaulty, IsUncalled};
 ghost use Rattle.mps_keeper.specs.RestoredFaults.{FaultFrom, RestoredFrom};
 ghost use Rattle.mps_keeper.specs.RestoredFaults.{IsNoLine, ReadsMore};
 ghost use Rattle.mps_keeper.specs.declared.restore.RestoreFault.TheVariants.{Memory as OutOfMemory};
+ghost use Rattle.mps_room.specs.Journal.{is_accepted};
+ghost use Rattle.mps_room.specs.Numbers.{newest_of};
 ghost use Rattle.std.specs.Io.KnownBytes.{Consumes, IsAtEnd};
 
 use crate::guest::is_accepted;
-use mps_base::Roles;
-use mps_command::{Answer, Command, Refusal};
+use crate::restored_room::RestoredRoom;
+use mps_base::Role;
+use mps_command::{Answer, Refusal};
 use mps_dev::{MAX_READS, Source};
-use mps_line::{LineFault, read_journal_line};
+use mps_line::{JournalLine, LineFault, read_journal_line};
 use mps_lines::line_end;
-use mps_room::{Caller, Told, call_numbered};
+use mps_room::Position;
 use std::alloc::{AllocError, Global};
 use thiserror::Error;
 
-/// Why callers were not restored from a journal.
+/// Why a session was not restored from a journal.
 #[derive(Clone, Copy, Debug, PartialEq, Eq, Error)]
 pub enum RestoreFault {
     /// A read failed, or the source gives more than is ever read.
@@ -36,9 +37,6 @@ pub enum RestoreFault {
     /// The command of the first line that was not restored, counted from 1, is not accepted.
     #[error("the command of line {line} isn't accepted")]
     Refused { line: u64 },
-    /// A pass of the session is in use.
-    #[error("a pass of the session is in use")]
-    Taken,
 }
 
 impl From<AllocError> for RestoreFault {
@@ -62,50 +60,6 @@ pub struct Restored {
     pub bytes: usize,
 }
 
-// Why the command of that line is refused.
-fn of_refusal(at: u64, refusal: Refusal) -> RestoreFault
-    ensures { IsUncalled (refusal ≢ refusals.Memory) at result }
-{
-    match refusal {
-        Refusal::Memory => RestoreFault::Memory,
-        _ => RestoreFault::Refused { line: at },
-    }
-}
-
-// Whether the answer accepts the command of that line.
-fn of_answer(at: u64, answer: &Answer) -> Result<(), RestoreFault>
-    ensures accepted { OnOk result (is_accepted answer.now ≡ true) }
-    ensures fault { IfErr result
-        (IsUncalled ((is_accepted answer.now ≡ false) × (answer.now ≢ Denied refusals.Memory)) at) }
-{
-    match answer {
-        Answer::Refused(refusal) => Err(of_refusal(at, *refusal)),
-        answer if is_accepted(answer) => Ok(()),
-        _ => Err(RestoreFault::Refused { line: at }),
-    }
-}
-
-// Gives the command of that line to the caller.
-fn call_recorded<C: Caller>(
-    caller: &mut C,
-    at: u64,
-    number: Option<u64>,
-    command: Command,
-) -> Result<(), RestoreFault>
-    requires { IsSome (change_of command) }
-    ensures accepted { OnOk result (IsAcceptedOf C.Caller caller.old number command caller.new) }
-    ensures fault { IfErr result (IsUncalled (IsRefusedOf C.Caller caller.old number command caller.new) at) }
-{
-    match number {
-        Some(n) => match call_numbered(caller, n, command) {
-            Told::Fresh => Ok(()),
-            Told::Refused(refusal) => Err(of_refusal(at, refusal)),
-            Told::Kept | Told::Wrong => Err(RestoreFault::Refused { line: at }),
-        },
-        None => of_answer(at, &caller.call(command)),
-    }
-}
-
 // Why that line can't be read.
 fn of_reading(at: u64, fault: LineFault) -> RestoreFault
     ensures { result ≡ of_reading at fault }
@@ -116,54 +70,123 @@ fn of_reading(at: u64, fault: LineFault) -> RestoreFault
     }
 }
 
-// Gives the command of that line to its role's caller.
-fn restore_line<C: Caller>(
-    alloc: Global,
-    roles: &Roles,
-    callers: &mut Vec<C>,
-    at: u64,
-    line: &[u8],
-) -> Result<(), RestoreFault>
-    requires { length callers.old.items ≡ length roles.now }
-    ensures length { length callers.new.items ≡ length callers.old.items }
-    ensures ok { OnOk result (LineRestored C.Caller roles.now callers.old.items line.now callers.new.items) }
-    ensures faulty { IfErr result (IsFaulty C.Caller roles.now callers.old.items line.now at) }
+// Whether the answer accepts the command of that line.
+fn of_answer(at: u64, answer: &Answer) -> Result<(), RestoreFault>
+    ensures accepted { OnOk result (is_accepted answer.now ≡ true) }
+    ensures fault { IfErr result
+        (IsUncalled ((is_accepted answer.now ≡ false) × (answer.now ≢ Denied refusals.Memory)) at) }
 {
-    match read_journal_line(alloc, roles, line) {
-        Ok(entry) => call_recorded(
-            &mut callers[entry.role.index()],
-            at,
-            entry.number,
-            entry.command,
-        ),
-        Err(fault) => Err(of_reading(at, fault)),
+    match answer {
+        Answer::Refused(Refusal::Memory) => Err(RestoreFault::Memory),
+        answer if is_accepted(answer) => Ok(()),
+        _ => Err(RestoreFault::Refused { line: at }),
     }
 }
 
-/// Gives the command of each whole line to its role's caller, in order. Each has to be accepted. A rest without LF is
-/// not looked at.
-pub fn restore_lines<C: Caller>(
-    alloc: Global,
-    roles: &Roles,
-    callers: &mut Vec<C>,
-    bytes: &[u8],
-) -> Result<Restored, RestoreFault>
-    requires { length callers.old.items ≡ length roles.now }
-    ensures ok { IfOk result
-        (λ r. IsRestoredTo C.Caller roles.now callers.old.items bytes.now callers.new.items r.lines r.bytes) }
-    ensures err { IfErr result (IsFirstFault C.Caller roles.now callers.old.items bytes.now) }
-{
-    let mut rest = bytes;
-    let mut lines = 0;
-    while let Some(k) = line_end(rest) {
-        restore_line(alloc, roles, callers, lines + 1, &rest[..k])?;
-        lines += 1;
-        rest = &rest[k + 1..];
+impl RestoredRoom {
+    // Whether a command of the role may have that number, or none.
+    fn is_next(&self, role: Role, number: Option<u64>) -> bool
+        requires { role < length self.now.room.types }
+        ensures { IsTrue result ↔ IsNext (get_or (newest_of self.now.numbers.items) role None) number }
+    {
+        match number {
+            Some(n) => matches!(
+                Position::of(self.numbers[role.index()].last(), n),
+                Position::Next
+            ),
+            None => true,
+        }
     }
-    Ok(Restored {
-        lines,
-        bytes: bytes.len() - rest.len(),
-    })
+
+    // Gives the command of that line to its role, and keeps the answer where it has a number.
+    fn call(&mut self, at: u64, asked: JournalLine) -> Result<(), RestoreFault>
+        requires { asked.role < length self.old.room.types }
+        ensures names { self.new.room.names ≡ self.old.room.names }
+        ensures types { self.new.room.types ≡ self.old.room.types }
+        ensures ok { OnOk result (IsCalled self.old.room.names self.old.room.types (standing_of self.old) asked.role
+            asked.number asked.command (standing_of self.new)) }
+        ensures fault { IfErr result (IsUncalled (IsRefused self.old.room.names self.old.room.types (standing_of self.old)
+            asked.role asked.number asked.command) at) }
+    {
+        let JournalLine {
+            role,
+            number,
+            command,
+        } = asked;
+        if !self.is_next(role, number) {
+            return Err(RestoreFault::Refused { line: at });
+        }
+        let answer = self.room.apply(role, command);
+        of_answer(at, &answer)?;
+        self.keep(role, number, answer);
+        Ok(())
+    }
+
+    // Keeps the answer for the role under that number, if there is one.
+    fn keep(&mut self, role: Role, number: Option<u64>, answer: Answer)
+        requires { role < length self.old.room.types }
+        ensures room { self.new.room ≡ self.old.room }
+        ensures kept { newest_of self.new.numbers.items
+            ≡ kept_after (newest_of self.old.numbers.items) role number answer }
+    {
+        if let Some(n) = number {
+            self.numbers[role.index()].keep(n, answer);
+        }
+    }
+
+    // Restores that line.
+    fn restore_line(&mut self, alloc: Global, at: u64, line: &[u8]) -> Result<(), RestoreFault>
+        ensures names { self.new.room.names ≡ self.old.room.names }
+        ensures types { self.new.room.types ≡ self.old.room.types }
+        ensures ok { OnOk result (LineRestored self.old.room.names self.old.room.types (standing_of self.old) line.now
+            (standing_of self.new)) }
+        ensures faulty { IfErr result (IsFaulty self.old.room.names self.old.room.types (standing_of self.old) line.now at) }
+    {
+        match read_journal_line(alloc, self.room.names(), line) {
+            Ok(asked) => self.call(at, asked),
+            Err(fault) => Err(of_reading(at, fault)),
+        }
+    }
+
+    /// Gives the command of each whole line to its role, in order. Each has to be accepted, and each number has to be the
+    /// next one of its role. A rest without LF is not looked at. After a fault the lines before it are restored.
+    pub fn restore_lines(&mut self, alloc: Global, bytes: &[u8]) -> Result<Restored, RestoreFault>
+        ensures names { self.new.room.names ≡ self.old.room.names }
+        ensures types { self.new.room.types ≡ self.old.room.types }
+        ensures ok { IfOk result (λ r. IsRestoredTo self.old.room.names self.old.room.types (standing_of self.old) bytes.now
+            (standing_of self.new) r.lines r.bytes) }
+        ensures err { IfErr result (IsFirstFault self.old.room.names self.old.room.types (standing_of self.old) bytes.now) }
+    {
+        let mut rest = bytes;
+        let mut lines = 0;
+        while let Some(k) = line_end(rest) {
+            self.restore_line(alloc, lines + 1, &rest[..k])?;
+            lines += 1;
+            rest = &rest[k + 1..];
+        }
+        Ok(Restored {
+            lines,
+            bytes: bytes.len() - rest.len(),
+        })
+    }
+
+    /// The same with all that the source gives.
+    pub fn restore_from<R: Source>(
+        &mut self,
+        alloc: Global,
+        reader: &mut R,
+    ) -> Result<Restored, RestoreFault>
+        requires { R.calls reader.old < 2 ^ 62 }
+        ensures names { self.new.room.names ≡ self.old.room.names }
+        ensures types { self.new.room.types ≡ self.old.room.types }
+        ensures ok { IfOk result (λ r. RestoredFrom self.old.room.names self.old.room.types R.Source (standing_of self.old)
+            reader.old reader.new (standing_of self.new) r.lines r.bytes) }
+        ensures err { IfErr result (FaultFrom self.old.room.names self.old.room.types R.Source (standing_of self.old)
+            reader.old reader.new) }
+    {
+        let all = read_all(alloc, reader)?;
+        self.restore_lines(alloc, all.as_slice())
+    }
 }
 
 // Reads once, and adds what was read. Says whether that was the end.
@@ -205,21 +228,4 @@ fn read_all<R: Source>(alloc: Global, reader: &mut R) -> Result<Vec<u8>, Restore
         }
     }
     Err(RestoreFault::Read)
-}
-
-/// Gives the command of each whole line of all that the source gives to its role's caller, in order.
-pub fn restore_from<C: Caller, R: Source>(
-    alloc: Global,
-    roles: &Roles,
-    callers: &mut Vec<C>,
-    reader: &mut R,
-) -> Result<Restored, RestoreFault>
-    requires many { length callers.old.items ≡ length roles.now }
-    requires reads { R.calls reader.old < 2 ^ 62 }
-    ensures ok { IfOk result (λ r. RestoredFrom C.Caller R.Source roles.now callers.old.items reader.old reader.new
-        callers.new.items r.lines r.bytes) }
-    ensures err { IfErr result (FaultFrom C.Caller R.Source roles.now callers.old.items reader.old reader.new) }
-{
-    let all = read_all(alloc, reader)?;
-    restore_lines(alloc, roles, callers, all.as_slice())
 }

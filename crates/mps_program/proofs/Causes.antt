@@ -12,6 +12,7 @@ use Rattle.mps_program.specs.Check.{GivesNoTypes, of_opening}
 use Rattle.mps_program.specs.Files.{longest}
 use Rattle.mps_program.specs.Streams.{HasGivenOpening}
 use Rattle.mps_program.specs.Faults.{as_told, without}
+use Rattle.mps_program.specs.Journals.{recorded_of}
 use Rattle.mps_program.specs.Served.{IsOutFault, IsServeFault}
 use Rattle.mps_program.specs.declared.faults.ToolFault.{ToolFault}
 use Rattle.mps_program.specs.declared.faults.ToolFault.TheVariants.{Bind, File, JournalFile, Read}
@@ -22,10 +23,10 @@ told (Ok x) P e is h = absurd is
 told (Err x) P e is h = subst P (sym is) h
 
 -- how a server fails that has the sessions of this file
-pub server_fails : {A : Type 0} (r : Result A ToolFault) (file : List ℕ) (folder folder' : Option (List ℕ)) (first first' n n' : ℕ) → folder ≡ folder' → first ≡ first' → n ≡ n' → IfErr r (IsOutFault folder first n) → IfErr r (IsServeFault file folder' first' n')
-server_fails (Ok x) file folder folder' first first' n n' same number count h = tt
-server_fails (Err e) file folder folder' first first' n n' same number count h =
-    inr (subst (λ (f : Option (List ℕ)). IsOutFault f first' n' e) same (subst (λ (k : ℕ). IsOutFault folder k n' e) number (subst (λ (k : ℕ). IsOutFault folder first k e) count h)))
+pub server_fails : {A : Type 0} (r : Result A ToolFault) (file : List ℕ) (folder : Option (List ℕ)) (recorded first first' n n' : ℕ) → recorded ≡ recorded_of folder n → first' ≡ first → n' ≡ n → IfErr r (IsOutFault recorded first' n') → IfErr r (IsServeFault file folder first n)
+server_fails (Ok x) file folder recorded first first' n n' same number count h = tt
+server_fails (Err e) file folder recorded first first' n n' same number count h =
+    inr (inr (subst (λ (k : ℕ × (ℕ × ℕ)). IsOutFault k.0 k.1.0 k.1.1 e) (λ i. (same i, (number i, count i))) h))
 
 -- without what the system says of it a server's fault is one of the same kind
 bare_server : (file : List ℕ) (folder : Option (List ℕ)) (first n : ℕ) (fault : ToolFault) → IsServeFault file folder first n fault → IsServeFault file folder first n (without fault)

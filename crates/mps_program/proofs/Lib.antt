@@ -6,3 +6,4 @@ pub mod Bounds
 pub mod Telling
 pub mod Hearing
 pub mod Passing
+pub mod Naming

@@ -1,32 +1,17 @@
 -- From the parts of what a server tells to the whole.
 use Rattle.std.proofs.Common.{◌≡◌, ◌≤◌, ℕ, zero, suc, ◌+◌, List, [], ◌∷◌, ◌++◌, Option, Some, None, Result, Ok, Err, IfErr, IsErrAnd, OnOk, length, get_or, refl, sym, ap, ◌∙◌, subst, arith, inl, inr}
-use Rattle.std.specs.Prelude.{All, slice_get}
-use Rattle.mps_local.specs.Local.{LocalType}
 use Rattle.mps_room.specs.RoomState.{RoomState}
-use Rattle.mps_machine.specs.Machine.{initial}
 use Rattle.mps_cell.specs.Cells.{Opened}
-use Rattle.mps_hub.proofs.Cells.{all_alike}
-use Rattle.mps_hub.specs.Halls.{AreCellsOf, AreCellsWith, AreClosed, Hall}
-use Rattle.mps_session.specs.SessionState.{SessionState}
+use Rattle.mps_hub.specs.Halls.{AreClosed}
 use Rattle.mps_wire.proofs.Bytes.{Appends-none, Appends-trans}
-use Rattle.mps_program.specs.Served.{IsSessionLine, AreSessionLines, AreLinesUpTo, HasOpened, HasServed, HasServedUpTo, IfLost, IsTellFault, IsOutFault}
+use Rattle.mps_program.specs.Served.{IsSessionLine, AreSessionLines, AreLinesUpTo, HasServed, HasServedUpTo, IfLost, IsTellFault, IsOutFault}
 use Rattle.mps_program.specs.Private.Served.{TookOne, TellsPort, IsHubFault, of_serving}
-use Rattle.mps_program.specs.Journals.{IsRecordingFault, recorded_of}
 use Rattle.mps_hub.specs.Serving.{IsServeFaultOf}
 use Rattle.mps_hub.specs.declared.server.ServeFault.{ServeFault}
 use Rattle.mps_hub.specs.declared.server.ServeFault.TheVariants.{Accept as NotAccepted, Memory as OutOfMemory, Unrecorded}
 use Rattle.mps_program.specs.Faults.{after_writes, failed_writes}
 use Rattle.mps_program.specs.declared.faults.ToolFault.{ToolFault}
-use Rattle.mps_program.specs.declared.faults.ToolFault.TheVariants.{Write, Bind, Accept, Lost, Memory}
-
--- a hub of new sessions that are all alike
-pub opened_hub : (roles : List (List ℕ)) (types : List LocalType) (first n : ℕ) (sessions : List SessionState) (hub : Hall) → All (λ (s : SessionState). s ≡ record { types = types; state = initial }) sessions → length sessions ≡ n → hub.names ≡ roles → hub.first ≡ first → AreCellsOf roles first sessions hub.cells → HasOpened roles types first n hub
-opened_hub roles types first n sessions hub all count named number cells =
-    record {
-      names = named;
-      first_is = number;
-      cells = subst (λ (r : List (List ℕ)). AreCellsWith r types first n hub.cells) (sym named) (all_alike roles types first n sessions hub.cells (record { types = types; state = initial }) all refl count cells);
-    }
+use Rattle.mps_program.specs.declared.faults.ToolFault.TheVariants.{Write, Bind, Accept, JournalLost, Lost, Memory}
 
 pub on_ok : {A E : Type 0} (r : Result A E) (P Q : Type 0) → (P → Q) → OnOk r P → OnOk r Q
 on_ok (Ok x) P Q f h = f h
@@ -67,14 +52,9 @@ pub none_lost : (P : ℕ → Type 0) (fault : ToolFault) → IsTellFault 1 0 fau
 none_lost P (Lost k) h = absurd (omega (arith, h.0, h.1))
 none_lost P fault h = tt
 
-no_lost : (folder : Option (List ℕ)) (first n k : ℕ) → IsRecordingFault folder first n (Lost k) → ⊥
-no_lost None first n k h = h
-no_lost (Some f) first n k (inl h) = h
-no_lost (Some f) first n k (inr h) = h
-
-pub hub_lost : (folder : Option (List ℕ)) (first n : ℕ) (P : ℕ → Type 0) (fault : ToolFault) → IsHubFault folder first n fault → IfLost P fault
-hub_lost folder first n P (Lost k) h = absurd (no_lost folder first n k h)
-hub_lost folder first n P fault h = tt
+pub hub_lost : (first recorded : ℕ) (P : ℕ → Type 0) (fault : ToolFault) → IsHubFault first recorded fault → IfLost P fault
+hub_lost first recorded P (Lost k) h = absurd h
+hub_lost first recorded P fault h = tt
 
 if_lost : (P Q : ℕ → Type 0) → ((k : ℕ) → P k → Q k) → (fault : ToolFault) → IfLost P fault → IfLost Q fault
 if_lost P Q f (Lost k) h = f k h
@@ -126,46 +106,32 @@ later_tell session n Write h = tt
 later_tell session n Memory h = tt
 later_tell session n fault h = absurd h
 
-pub out_tell : (folder : Option (List ℕ)) (first n : ℕ) (fault : ToolFault) → IsTellFault first n fault → IsOutFault folder first n fault
-out_tell folder first n (Bind why) h = tt
-out_tell folder first n Accept h = tt
-out_tell folder first n fault h = inl h
+pub out_tell : (recorded first n : ℕ) (fault : ToolFault) → IsTellFault first n fault → IsOutFault recorded first n fault
+out_tell recorded first n (Bind why) h = tt
+out_tell recorded first n Accept h = tt
+out_tell recorded first n (JournalLost session) h = absurd h
+out_tell recorded first n fault h = h
 
-pub hub_out : (folder : Option (List ℕ)) (first n : ℕ) (fault : ToolFault) → IsHubFault folder first n fault → IsOutFault folder first n fault
-hub_out folder first n Write h = inl tt
-hub_out folder first n (Bind why) h = tt
-hub_out folder first n Accept h = tt
-hub_out folder first n Memory h = inl tt
-hub_out folder first n fault h = inr h
+pub hub_out : (recorded first n : ℕ) (fault : ToolFault) → IsHubFault first recorded fault → IsOutFault recorded first n fault
+hub_out recorded first n Write h = tt
+hub_out recorded first n (Bind why) h = tt
+hub_out recorded first n Accept h = tt
+hub_out recorded first n Memory h = tt
+hub_out recorded first n (JournalLost session) h = h
+hub_out recorded first n fault h = absurd h
 
 -- the port's line fails to be told
-pub tell_hub : (folder : Option (List ℕ)) (first n : ℕ) (fault : ToolFault) → IsTellFault 1 0 fault → IsHubFault folder first n fault
-tell_hub folder first n Write h = tt
-tell_hub folder first n Memory h = tt
-tell_hub folder first n (Lost k) h = absurd (omega (arith, h.0, h.1))
-tell_hub folder first n fault h = absurd h
-
--- the sessions fail to be recorded
-pub recording_hub : (folder : Option (List ℕ)) (first n : ℕ) (fault : ToolFault) → IsRecordingFault folder first n fault → IsHubFault folder first n fault
-recording_hub folder first n Write h = tt
-recording_hub folder first n (Bind why) h = tt
-recording_hub folder first n Accept h = tt
-recording_hub folder first n Memory h = tt
-recording_hub folder first n fault h = h
+pub tell_hub : (first recorded : ℕ) (fault : ToolFault) → IsTellFault 1 0 fault → IsHubFault first recorded fault
+tell_hub first recorded Write h = tt
+tell_hub first recorded Memory h = tt
+tell_hub first recorded (Lost k) h = absurd (omega (arith, h.0, h.1))
+tell_hub first recorded fault h = absurd h
 
 -- the serving ends
-pub serving_hub : (folder : Option (List ℕ)) (first n : ℕ) (fault : ServeFault) → IsServeFaultOf first (recorded_of folder n) fault → IsHubFault folder first n (of_serving fault)
-serving_hub folder first n NotAccepted h = tt
-serving_hub folder first n OutOfMemory h = tt
-serving_hub None first n (Unrecorded session) h = absurd (omega (arith, h.0, h.1))
-serving_hub (Some f) first n (Unrecorded session) h = inr h
-
--- no such fault is a failed write
-pub recording_writes : (folder : Option (List ℕ)) (first n : ℕ) (fault : ToolFault) → IsRecordingFault folder first n fault → failed_writes fault ≡ 0
-recording_writes None first n fault h = absurd h
-recording_writes (Some f) first n Write (inl h) = absurd h
-recording_writes (Some f) first n Write (inr h) = absurd h
-recording_writes (Some f) first n fault h = refl
+pub serving_hub : (first recorded : ℕ) (fault : ServeFault) → IsServeFaultOf first recorded fault → IsHubFault first recorded (of_serving fault)
+serving_hub first recorded NotAccepted h = tt
+serving_hub first recorded OutOfMemory h = tt
+serving_hub first recorded (Unrecorded session) h = h
 
 pub serving_writes : (fault : ServeFault) → failed_writes (of_serving fault) ≡ 0
 serving_writes NotAccepted = refl

@@ -2,7 +2,7 @@
 use Rattle.std.specs.Prelude.{◌≡◌, ◌⊎◌, ⊤, ℕ, List, Option, None, Some}
 use Rattle.mps_hub.specs.Places.{IsSession}
 use Rattle.mps_keeper.specs.declared.restore.RestoreFault.{RestoreFault}
-use Rattle.mps_keeper.specs.declared.restore.RestoreFault.TheVariants.{Read as NotRead, Memory as OutOfMemory, Taken}
+use Rattle.mps_keeper.specs.declared.restore.RestoreFault.TheVariants.{Read as NotRead, Memory as OutOfMemory}
 use Rattle.mps_keeper.specs.declared.restore.RestoreFault.TheVariants.{Unreadable, Refused}
 use Rattle.mps_program.specs.declared.faults.ToolFault.{ToolFault}
 use Rattle.mps_program.specs.declared.faults.ToolFault.TheVariants.{File, JournalFile, JournalLine, JournalProtocol}
@@ -38,7 +38,6 @@ IsJournalFault folder first n fault = IsFolderFault folder fault ⊎ IsFileFault
 -- why a session was not restored, as the program tells it
 abbrev pub of_restoring : ℕ → RestoreFault → ToolFault
 of_restoring session NotRead = JournalLost session
-of_restoring session Taken = JournalLost session
 of_restoring session OutOfMemory = Memory
 of_restoring session (Unreadable line) = JournalLine session line
 of_restoring session (Refused line) = JournalLine session line
@@ -48,7 +47,7 @@ abbrev pub recorded_of : Option (List ℕ) → ℕ → ℕ
 recorded_of None n = 0
 recorded_of (Some folder) n = n
 
--- how sessions may fail to be recorded, if they are
-abbrev pub IsRecordingFault : Option (List ℕ) → (first n : ℕ) → ToolFault → Type 0
-IsRecordingFault None first n fault = ⊥
-IsRecordingFault (Some folder) first n fault = IsJournalFault folder first n fault
+-- how the rooms of so many sessions may fail to be had, which are recorded in this folder, if they are
+abbrev pub IsSessionsFault : Option (List ℕ) → (first n : ℕ) → ToolFault → Type 0
+IsSessionsFault None first n fault = fault ≡ Memory
+IsSessionsFault (Some folder) first n fault = IsJournalFault folder first n fault

@@ -5,6 +5,7 @@ pub mod Ends
 pub mod Faults
 pub mod Files
 pub mod Journals
+pub mod Rooms
 pub mod Served
 pub mod Streams
 pub mod Until

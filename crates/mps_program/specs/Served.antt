@@ -5,18 +5,12 @@ use Rattle.std.specs.Io.KnownBytes.{Appends}
 use Rattle.mps_base.specs.Numbers.{IsNumberText}
 use Rattle.mps_room.specs.RoomState.{RoomState}
 use Rattle.mps_cell.specs.Cells.{Opened}
-use Rattle.mps_hub.specs.Halls.{AreCellsWith, AreClosed, Hall}
-use Rattle.mps_local.specs.Local.{LocalType}
+use Rattle.mps_hub.specs.Halls.{AreClosed}
+use Rattle.mps_hub.specs.Places.{IsSession}
 use Rattle.mps_program.specs.Faults.{IsLoadFault}
-use Rattle.mps_program.specs.Journals.{IsRecordingFault}
+use Rattle.mps_program.specs.Journals.{IsSessionsFault, recorded_of}
 use Rattle.mps_program.specs.declared.faults.ToolFault.{ToolFault}
-use Rattle.mps_program.specs.declared.faults.ToolFault.TheVariants.{Write, Bind, Accept, Lost, Memory}
-
--- the hub has so many new sessions of these roles and types, numbered from this number on
-pub record HasOpened (roles : List (List ℕ)) (types : List LocalType) (first n : ℕ) (hub : Hall) : Type 0 where
-  pub names : hub.names ≡ roles
-  pub first_is : hub.first ≡ first
-  pub cells : AreCellsWith hub.names types first n hub.cells
+use Rattle.mps_program.specs.declared.faults.ToolFault.TheVariants.{Write, Bind, Accept, JournalLost, Lost, Memory}
 
 -- the port of a listener that was to have this one, where 0 is any that is free
 abbrev pub IsPortFor : (wanted port : ℕ) → Type 0
@@ -93,13 +87,16 @@ abbrev pub IsBindFault : ToolFault → Type 0
 IsBindFault (Bind why) = ⊤
 IsBindFault fault = ⊥
 
--- how a server of so many sessions from this one on may fail, which are recorded in this folder, if they are:
--- as the telling does, or it has no port, or accepts no more, or the sessions fail to be recorded
-abbrev pub IsOutFault : Option (List ℕ) → (first n : ℕ) → ToolFault → Type 0
-IsOutFault folder first n (Bind why) = ⊤
-IsOutFault folder first n Accept = ⊤
-IsOutFault folder first n fault = IsTellFault first n fault ⊎ IsRecordingFault folder first n fault
+-- how a server of so many sessions from this one on may fail, of which the first so many are recorded: as the telling
+-- does, or it has no port, or accepts no more, or lines of a recorded session are lost
+abbrev pub IsOutFault : (recorded first n : ℕ) → ToolFault → Type 0
+IsOutFault recorded first n (Bind why) = ⊤
+IsOutFault recorded first n Accept = ⊤
+IsOutFault recorded first n (JournalLost session) = IsSession first recorded session
+IsOutFault recorded first n fault = IsTellFault first n fault
 
--- how a server of this file may fail: the file gives no types, or the server fails
+-- how a server of this file may fail, whose sessions are recorded in this folder, if they are: the file gives no types, the
+-- sessions fail to be had, or the server fails
 abbrev pub IsServeFault : List ℕ → Option (List ℕ) → (first n : ℕ) → ToolFault → Type 0
-IsServeFault file folder first n fault = IsLoadFault file fault ⊎ IsOutFault folder first n fault
+IsServeFault file folder first n fault =
+    IsLoadFault file fault ⊎ (IsSessionsFault folder first n fault ⊎ IsOutFault (recorded_of folder n) first n fault)

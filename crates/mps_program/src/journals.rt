@@ -1,30 +1,34 @@
 //! The files that record a server's sessions.
-ghost use Rattle.std.specs.Prelude.{◌≡◌, ◌+◌, ◌<◌, ◌≤◌, ◌^◌, ℕ, IfErr, IfOk, length};
+ghost use Rattle.std.specs.Prelude.{◌≡◌, ◌+◌, ◌<◌, ◌≤◌, ◌^◌, ℕ, IfErr, IfOk, All, length, map};
 ghost use Rattle.mps_hub.specs.Places.{IsSession};
+ghost use Rattle.mps_local.specs.Local.{plain};
+ghost use Rattle.mps_program.specs.Rooms.{IsRestoredRoom};
 ghost use Rattle.mps_program.specs.Journals.{IsFolderFault, IsFileFaultOf, IsJournalFault, IsOneFault};
 ghost use Rattle.mps_program.specs.Journals.{of_restoring};
 
 use crate::faults::ToolFault;
+use crate::rooms::room_of;
 use mps_dev::{OverRead, OverWrite};
-use mps_hub::Desk;
+use mps_hub::RestoredRoom;
 use mps_keeper::{Book, Keeper, RestoreFault, Restored};
+use mps_open::Opening;
+use mps_text::write_protocol;
 use mps_words::JournalFolder;
 use std::alloc::Global;
 use std::fs::{DirBuilder, File};
 use std::io::{ErrorKind, Write};
 use std::os::unix::fs::{DirBuilderExt, OpenOptionsExt};
 use std::rt::Files;
-use std::sync::Wait;
 use std::{fs, io};
 
 /// What records a session in a file.
 pub type FileKeeper = Keeper<OverWrite<File>, File>;
 
-/// What records a server's sessions: a folder, and the protocol that it has to be of, as it is written.
-#[derive(Clone, Copy)]
-pub struct Recording<'a, 'p> {
-    pub journal: JournalFolder<'a>,
-    pub protocol: &'p [u8],
+/// The rooms of a server's sessions, in order, and what records them: a keeper for each, or none at all.
+#[derive(Drop)]
+pub struct Sessions {
+    pub rooms: Vec<RestoredRoom>,
+    pub keepers: Vec<FileKeeper>,
 }
 
 // Makes the folder for its owner alone, unless it is there.
@@ -147,7 +151,7 @@ fn unrestored<'a>(session: u64, fault: RestoreFault) -> ToolFault<'a>
     ensures { result ≡ of_restoring session fault }
 {
     match fault {
-        RestoreFault::Read | RestoreFault::Taken => ToolFault::JournalLost { session },
+        RestoreFault::Read => ToolFault::JournalLost { session },
         RestoreFault::Memory => ToolFault::Memory,
         RestoreFault::Unreadable { line } | RestoreFault::Refused { line } => {
             ToolFault::JournalLine { session, line }
@@ -162,27 +166,46 @@ struct RestoredFile {
     restored: Restored,
 }
 
-// Restores each session from its file.
-fn restore_all<'a, R: Wait + AllocGlobal + 'static>(
-    rt: &R,
-    desk: &Desk<'_>,
-    files: Vec<File>,
-) -> Result<Vec<RestoredFile>, ToolFault<'a>>
-    requires { length files.items ≡ length desk.now.cells }
-    ensures count { IfOk result (λ read. length read.items ≡ length files.items) }
-    ensures fault { IfErr result (IsFileFaultOf desk.now.first (length files.items)) }
+// The room of a session, restored from its file.
+fn restore_file<'a>(
+    alloc: Global,
+    opening: &Opening,
+    session: u64,
+    file: &File,
+) -> Result<(RestoredRoom, Restored), ToolFault<'a>>
+    ensures room { IfOk result (λ r. IsRestoredRoom opening.now.roles (map plain opening.now.types.items) r.0) }
+    ensures fault { IfErr result (IsOneFault session) }
 {
-    let alloc = rt.alloc();
-    let first = desk.first();
+    let mut room = room_of(alloc, opening)?;
+    match room.restore_from(alloc, &mut OverRead::new(file)) {
+        Ok(restored) => Ok((room, restored)),
+        Err(fault) => Err(unrestored(session, fault)),
+    }
+}
+
+// Restores each session from its file, of which the first has that number.
+fn restore_all<'a>(
+    alloc: Global,
+    opening: &Opening,
+    first: u64,
+    files: Vec<File>,
+) -> Result<(Vec<RestoredRoom>, Vec<RestoredFile>), ToolFault<'a>>
+    requires { first + length files.items < 2 ^ 64 }
+    ensures count { IfOk result (λ r. length r.1.items ≡ length files.items) }
+    ensures rooms { IfOk result (λ r. length r.0.items ≡ length files.items) }
+    ensures restored { IfOk result (λ r.
+        All (IsRestoredRoom opening.now.roles (map plain opening.now.types.items)) r.0.items) }
+    ensures fault { IfErr result (IsFileFaultOf first (length files.items)) }
+{
+    let mut rooms = Vec::with_capacity(alloc, files.len())?;
     let mut read = Vec::with_capacity(alloc, files.len())?;
     for file in files {
-        let session = first + read.len() as u64;
-        match desk.restore(rt, alloc, session, &mut OverRead::new(&file)) {
-            Ok(restored) => read.push_reserved(RestoredFile { file, restored }),
-            Err(fault) => return Err(unrestored(session, fault)),
-        }
+        let session = first + rooms.len() as u64;
+        let (room, restored) = restore_file(alloc, opening, session, &file)?;
+        rooms.push_reserved(room);
+        read.push_reserved(RestoredFile { file, restored });
     }
-    Ok(read)
+    Ok((rooms, read))
 }
 
 // Cuts the file to its whole lines, and makes it the keeper of so many.
@@ -224,25 +247,29 @@ fn record_all<'a>(
     Ok(keepers)
 }
 
-/// The keeper of each of the desk's sessions, which are restored from the folder first. The folder is made where there
-/// is none, and gets the protocol where it has none.
+/// The rooms of so many sessions, of which the first has that number, as the folder's journals leave them, and the keeper
+/// of each. The folder is made where there is none, and gets the protocol where it has none.
 ///
 /// The journals are locked as long as the keepers live. Where the folder is of another protocol, or a line of a
 /// journal isn't accepted, no file is changed; journals that weren't there may have been made, with nothing in them.
-pub fn record_sessions<'a, R: Files<File = File> + AllocGlobal + Wait + 'static>(
+pub fn record_sessions<'a, R: Files<File = File> + AllocGlobal>(
     rt: &R,
-    desk: &Desk<'_>,
+    opening: &Opening,
+    first: u64,
     sessions: u64,
-    recording: Recording<'a, '_>,
-) -> Result<Vec<FileKeeper>, ToolFault<'a>>
-    requires { sessions ≡ length desk.now.cells }
-    ensures count { IfOk result (λ keepers. length keepers.items ≡ sessions) }
-    ensures fault { IfErr result (IsJournalFault recording.entry.journal.folder.now desk.now.first sessions) }
+    journal: JournalFolder<'a>,
+) -> Result<Sessions, ToolFault<'a>>
+    requires { first + sessions < 2 ^ 64 }
+    ensures count { IfOk result (λ r. length r.rooms.items ≡ sessions) }
+    ensures keepers { IfOk result (λ r. length r.keepers.items ≡ sessions) }
+    ensures restored { IfOk result (λ r.
+        All (IsRestoredRoom opening.now.roles (map plain opening.now.types.items)) r.rooms.items) }
+    ensures fault { IfErr result (IsJournalFault journal.entry.folder.now first sessions) }
 {
     let alloc = rt.alloc();
-    let Recording { journal, protocol } = recording;
     let folder = journal.folder;
-    let first = desk.first();
+    let protocol = write_protocol(alloc, &opening.protocol)?;
+    let protocol = protocol.as_slice();
     let path = format!(in alloc; "{folder}/protocol")?;
     let beside = format!(in alloc; "{folder}/protocol.new")?;
     if let Err(error) = make_folder(rt, folder) {
@@ -252,7 +279,7 @@ pub fn record_sessions<'a, R: Files<File = File> + AllocGlobal + Wait + 'static>
     let files = open_journals(rt, folder, first, sessions)?;
     // before the journals were locked another server may have written it
     let known = known || has_protocol(rt, folder, path.as_str(), protocol)?;
-    let read = restore_all(rt, desk, files)?;
+    let (rooms, read) = restore_all(alloc, opening, first, files)?;
     if !known {
         if let Err(error) = write_whole(rt, path.as_str(), beside.as_str(), protocol) {
             return Err(unusable(folder, error));
@@ -265,7 +292,7 @@ pub fn record_sessions<'a, R: Files<File = File> + AllocGlobal + Wait + 'static>
             return Err(unusable(folder, error));
         }
     }
-    Ok(keepers)
+    Ok(Sessions { rooms, keepers })
 }
 
 // Has the disk store which files the folder has, and that it is in its parent.

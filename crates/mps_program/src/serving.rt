@@ -1,26 +1,23 @@
 //! Sessions served to connections.
 ghost use Rattle.std.specs.Prelude.{◌≡◌, ◌+◌, ◌<◌, ◌≤◌, ◌^◌, false, length, map, All, IfErr, IfOk, OnOk};
 ghost use Rattle.std.specs.Option.{option_map};
-ghost use Rattle.mps_local.specs.Local.{plain};
-ghost use Rattle.mps_machine.specs.Machine.{initial};
 ghost use Rattle.mps_program.specs.Faults.{after_writes, without};
-ghost use Rattle.mps_program.specs.Journals.{IsRecordingFault, recorded_of};
-ghost use Rattle.mps_program.specs.Served.{AreLinesUpTo, AreSessionLines, HasOpened, HasServed, HasServedUpTo, IfLost};
+ghost use Rattle.mps_program.specs.Journals.{IsSessionsFault, recorded_of};
+ghost use Rattle.mps_program.specs.Served.{AreLinesUpTo, AreSessionLines, HasServed, HasServedUpTo, IfLost};
 ghost use Rattle.mps_program.specs.Served.{IsBindFault, IsListeningLine, IsOutFault, IsPortFor, IsServeFault};
 ghost use Rattle.mps_program.specs.Served.{IsSessionLine, IsTellFault};
 ghost use Rattle.mps_program.specs.Private.Served.{IsHubFault, TellsPort, TookOne, of_serving};
 
 use crate::faults::{ToolFault, told};
 use crate::files::tell;
-use crate::journals::{FileKeeper, Recording, record_sessions};
+use crate::journals::{FileKeeper, Sessions, record_sessions};
 use crate::load::load_file;
+use crate::rooms::rooms_of;
 use mps_base::write_number;
 use mps_dev::{OverWrite, Sink};
-use mps_hub::{Desk, Hub, Limits, ServeFault, Serving, Unguarded, serve_recorded};
+use mps_hub::{Hub, Limits, ServeFault, Serving, Unguarded, serve_recorded};
 use mps_open::Opening;
 use mps_room::Room;
-use mps_session::Session;
-use mps_text::write_protocol;
 use mps_words::JournalFolder;
 use std::alloc::{AllocError, Global};
 use std::fs::File;
@@ -141,26 +138,6 @@ fn listen<'a, R: Net<Listener = TcpListener, Stream = TcpStream>>(
     }
 }
 
-// The keepers of the desk's sessions, if they are recorded.
-fn keepers<'a, R: Files<File = File> + AllocGlobal + Wait + 'static>(
-    rt: &R,
-    desk: &Desk<'_>,
-    sessions: u64,
-    recording: Option<Recording<'a, '_>>,
-) -> Result<Vec<FileKeeper>, ToolFault<'a>>
-    requires { sessions ≡ length desk.now.cells }
-    ensures count { IfOk result
-        (λ keepers. length keepers.items
-        ≡ recorded_of (option_map (λ k. k.journal.folder.now) recording.entry) sessions) }
-    ensures fault { IfErr result
-        (IsRecordingFault (option_map (λ k. k.journal.folder.now) recording.entry) desk.now.first sessions) }
-{
-    match recording {
-        Some(recording) => record_sessions(rt, desk, sessions, recording),
-        None => Ok(Vec::new(rt.alloc())),
-    }
-}
-
 // Why the serving ended.
 fn unserved<'a>(fault: ServeFault) -> ToolFault<'a>
     ensures { result ≡ of_serving fault }
@@ -180,14 +157,14 @@ fn tell_lost<R: Eprint>(rt: &R, lost: u64, verbose: bool) {
     }
 }
 
-// Restores the sessions, where they are recorded, tells the port, and serves them to connections.
+// Tells the port, and serves the sessions to connections.
 fn serve_hub<'a, R, W: Sink>(
     rt: &R,
     writer: &mut W,
     hub: &mut Hub,
+    keepers: &[FileKeeper],
     port: u16,
     limits: Limits,
-    recording: Option<Recording<'a, '_>>,
     verbose: bool,
 ) -> Result<(), ToolFault<'a>>
 where
@@ -201,22 +178,19 @@ where
         + Sync
         + 'static,
     requires given { hub.old.given ≡ false }
-    requires few { length hub.old.cells ≤ 16 }
+    requires recorded { length keepers.now ≤ length hub.old.cells }
     requires writes { W.failed_calls writer.old < 2 ^ 62 }
     ensures first { hub.new.first ≡ hub.old.first }
     ensures same { hub.new.cells ≡ hub.old.cells }
     ensures told { OnOk result (TookOne (TellsPort port) (W.taken writer.old) (W.taken writer.new)) }
-    ensures fault { IfErr result (IsHubFault (option_map (λ k. k.journal.folder.now) recording.entry)
-        hub.old.first (length hub.old.cells)) }
+    ensures fault { IfErr result (IsHubFault hub.old.first (length keepers.now)) }
     ensures writes { W.failed_calls writer.new ≡ after_writes result (W.failed_calls writer.old) }
 {
     let alloc = rt.alloc();
-    let sessions = hub.sessions();
     let desk = match hub.deal() {
         Some(deal) => hub.desk_of(alloc, deal)?,
         None => unreachable!(),
     };
-    let keepers = keepers(rt, &desk, sessions, recording)?;
     let (listener, found) = listen(rt, port)?;
     tell_port(alloc, writer, found)?;
     let serving = Serving {
@@ -224,7 +198,7 @@ where
         alloc,
         desk: &desk,
         gate: &Unguarded,
-        keepers: &keepers,
+        keepers,
     };
     match serve_recorded(&serving, &listener, limits) {
         Ok(served) => {
@@ -235,18 +209,18 @@ where
     }
 }
 
-/// Restores the hub's sessions where they are recorded, tells the port, serves them to connections, and then tells how
-/// many entries the journal of each session has. Where more is to be told (`verbose`), it tells on standard error how
-/// many connections were lost, if any were.
+/// Tells the port, serves the hub's sessions to connections, and then tells how many entries the journal of each session
+/// has. The keepers record all of the sessions, the first of them, or none. Where more is to be told (`verbose`), it tells
+/// on standard error how many connections were lost, if any were.
 ///
 /// After a fault nothing more is told: the lines of sessions stop before the first that is lost, which the fault names.
 pub fn serve_to<'a, R, W: Sink>(
     rt: &R,
     writer: &mut W,
     hub: Hub,
+    keepers: Vec<FileKeeper>,
     port: u16,
     limits: Limits,
-    recording: Option<Recording<'a, '_>>,
     verbose: bool,
 ) -> Result<(), ToolFault<'a>>
 where
@@ -262,50 +236,19 @@ where
     requires fresh { hub.given ≡ false }
     requires number { hub.first ≤ 2 ^ 63 }
     requires few { length hub.cells ≤ 16 }
+    requires recorded { length keepers.items ≤ length hub.cells }
     requires writes { W.failed_calls writer.old < 2 ^ 62 }
     ensures told { OnOk result (HasServed port hub.first hub.cells (W.taken writer.old) (W.taken writer.new)) }
-    ensures fault { IfErr result
-        (IsOutFault (option_map (λ k. k.journal.folder.now) recording.entry) hub.first (length hub.cells)) }
+    ensures fault { IfErr result (IsOutFault (length keepers.items) hub.first (length hub.cells)) }
     ensures lost { IfErr result
         (IfLost (HasServedUpTo port hub.first hub.cells (W.taken writer.old) (W.taken writer.new))) }
     ensures writes { W.failed_calls writer.new ≡ after_writes result (W.failed_calls writer.old) }
 {
     let first = hub.first();
     let mut hub = hub;
-    serve_hub(rt, writer, &mut hub, port, limits, recording, verbose)?;
+    serve_hub(rt, writer, &mut hub, &keepers, port, limits, verbose)?;
     let rooms = hub.close(rt.alloc())?;
     tell_sessions(rt.alloc(), writer, first, rooms.as_slice())
-}
-
-// So many new sessions.
-fn sessions_of(alloc: Global, opening: &Opening, n: u64) -> Result<Vec<Session>, AllocError>
-    requires few { n ≤ 16 }
-    ensures count { IfOk result (λ sessions. length sessions.items ≡ n) }
-    ensures new { IfOk result (λ sessions. All
-        (λ s. s ≡ record { types = map plain opening.now.types.items; state = initial }) sessions.items) }
-{
-    let mut sessions = Vec::with_capacity(alloc, n as usize)?;
-    for _ in 0..n {
-        sessions.push_reserved(opening.session(alloc)?);
-    }
-    Ok(sessions)
-}
-
-/// Opens so many sessions, of which the first has that number.
-pub fn hub_of(
-    alloc: Global,
-    opening: &Opening,
-    first: u64,
-    sessions: u64,
-) -> Result<Hub, AllocError>
-    requires number { first ≤ 2 ^ 63 }
-    requires some { (1 ≤ sessions) × (sessions ≤ 16) }
-    ensures given { IfOk result (λ hub. hub.given ≡ false) }
-    ensures opened { IfOk result (λ hub. HasOpened
-        opening.now.roles (map plain opening.now.types.items) first sessions hub) }
-{
-    let made = sessions_of(alloc, opening, sessions)?;
-    Hub::of_numbered(alloc, &opening.roles, first, made)
 }
 
 /// How a server runs: its port, the number of its first session, how many sessions it has, its limits, and where the
@@ -319,16 +262,29 @@ pub struct Service<'a> {
     pub journal: Option<JournalFolder<'a>>,
 }
 
-// The folder of journals with the protocol that they have to be of, if there is one.
-fn recording_of<'a, 'p>(
+// The rooms of so many sessions, of which the first has that number, and what records them, if something does.
+#[tactic(auto, using(crate::proofs::Naming::restored_named))]
+fn sessions_of<'a, R: Files<File = File> + AllocGlobal>(
+    rt: &R,
+    opening: &Opening,
+    first: u64,
+    sessions: u64,
     journal: Option<JournalFolder<'a>>,
-    protocol: &'p [u8],
-) -> Option<Recording<'a, 'p>>
-    ensures { option_map (λ k. k.journal.folder.now) result ≡ option_map (λ j. j.folder.now) journal.entry }
+) -> Result<Sessions, ToolFault<'a>>
+    requires number { first ≤ 2 ^ 63 }
+    requires few { sessions ≤ 16 }
+    ensures rooms { IfOk result (λ r. length r.rooms.items ≡ sessions) }
+    ensures keepers { IfOk result (λ r. length r.keepers.items
+        ≡ recorded_of (option_map (λ j. j.folder.now) journal.entry) sessions) }
+    ensures named { IfOk result (λ r. All (λ room. room.room.names ≡ opening.now.roles) r.rooms.items) }
+    ensures fault { IfErr result (IsSessionsFault (option_map (λ j. j.folder.now) journal.entry) first sessions) }
 {
     match journal {
-        Some(journal) => Some(Recording { journal, protocol }),
-        None => None,
+        Some(journal) => record_sessions(rt, opening, first, sessions, journal),
+        None => Ok(Sessions {
+            rooms: rooms_of(rt.alloc(), opening, sessions)?,
+            keepers: Vec::new(rt.alloc()),
+        }),
     }
 }
 
@@ -357,23 +313,17 @@ where
 {
     let alloc = rt.alloc();
     let opening = load_file(rt, file)?;
-    let hub = hub_of(alloc, &opening, service.first, service.sessions)?;
-    // what a journal has to be of, where there is one
-    let written = match &service.journal {
-        Some(_) => write_protocol(alloc, &opening.protocol)?,
-        None => Vec::new(alloc),
-    };
-    let recording = recording_of(service.journal, written.as_slice());
+    let Service {
+        port,
+        first,
+        sessions,
+        limits,
+        journal,
+    } = service;
+    let Sessions { rooms, keepers } = sessions_of(rt, &opening, first, sessions, journal)?;
+    let hub = Hub::of_restored(alloc, &opening.roles, first, rooms)?;
     let mut writer = OverWrite::new(io::writer(rt));
-    serve_to(
-        rt,
-        &mut writer,
-        hub,
-        service.port,
-        service.limits,
-        recording,
-        verbose,
-    )
+    serve_to(rt, &mut writer, hub, keepers, port, limits, verbose)
 }
 
 /// Serves sessions of the protocol in the file at a port of 127.0.0.1. Where more is to be told (`verbose`), a fault says

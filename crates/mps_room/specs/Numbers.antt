@@ -1,5 +1,5 @@
 -- Numbered commands: one is called once, however often its line is sent.
-use Rattle.std.specs.Prelude.{◌≡◌, ◌≢◌, ℕ, ◌+◌, true, Option, None, Some, Result, Ok, Err}
+use Rattle.std.specs.Prelude.{◌≡◌, ◌≢◌, ℕ, ◌+◌, true, Option, None, Some, Result, Ok, Err, List, map}
 use Rattle.std.proofs.Common.{refl}
 use Rattle.mps_command.specs.declared.answer.Answer.{Answer}
 use Rattle.mps_command.specs.declared.answer.Answer.TheVariants as answers
@@ -7,6 +7,7 @@ use Rattle.mps_command.specs.declared.answer.Refusal.{Refusal}
 use Rattle.mps_command.specs.declared.command.Command.{Command}
 use Rattle.mps_room.specs.Journal.{is_accepted}
 use Rattle.mps_room.specs.declared.numbers.Numbered.{Numbered}
+use Rattle.mps_room.specs.declared.numbers.Numbers.{Numbers}
 use Rattle.mps_room.specs.declared.numbers.Position.{Position}
 use Rattle.mps_room.specs.declared.numbers.Position.TheVariants.{Last, Next, Elsewhere}
 use Rattle.mps_room.specs.declared.numbers.Told.{Told}
@@ -21,6 +22,10 @@ last_of (Some newest) = newest.number
 abbrev pub kept_of : Option Numbered → Option Answer
 kept_of None = None
 kept_of (Some newest) = Some newest.answer
+
+-- the newest of each of several callers
+abbrev pub newest_of : List Numbers → List (Option Numbered)
+newest_of callers = map (λ (n : Numbers). n.newest) callers
 
 -- where the last number isn't 0, its answer is kept
 pub keeps_newest : (newest : Option Numbered) → last_of newest ≢ 0 → (answer : Answer) × (kept_of newest ≡ Some answer)

@@ -1,9 +1,10 @@
 //! Numbers of commands, by which a caller that lost an answer asks again.
-ghost use Rattle.std.specs.Prelude.{◌≡◌, Some};
+ghost use Rattle.std.specs.Prelude.{◌≡◌, Some, None, IfOk, All, length};
 ghost use Rattle.std.specs.Option.{option_map};
 ghost use Rattle.mps_room.specs.Numbers.{last_of, kept_of, IsPosition};
 
 use mps_command::{Answer, Refusal};
+use std::alloc::{AllocError, Global};
 
 /// What came of a command with a number.
 #[derive(Clone, Copy, Debug, PartialEq, Eq)]
@@ -63,6 +64,18 @@ impl Numbers {
         ensures { result.newest ≡ None }
     {
         Numbers { newest: None }
+    }
+
+    /// Those of so many callers, none of which had a command with a number accepted.
+    pub fn of_each(alloc: Global, callers: usize) -> Result<Vec<Numbers>, AllocError>
+        ensures count { IfOk result (λ each. length each.items ≡ callers) }
+        ensures none { IfOk result (λ each. All (λ n. n.newest ≡ None) each.items) }
+    {
+        let mut each = Vec::with_capacity(alloc, callers)?;
+        for _ in 0..callers {
+            each.push_reserved(Numbers::new());
+        }
+        Ok(each)
     }
 
     /// The last number, 0 at first.

@@ -1,8 +1,8 @@
 //! The server, over a socket.
 
 use mps_dev::{Pieces, Short};
-use mps_hub::Limits;
-use mps_program::{hub_of, load_opening, serve_to};
+use mps_hub::{Hub, Limits};
+use mps_program::{load_opening, rooms_of, serve_to};
 use std::alloc::Global;
 use std::fs::File;
 use std::io::{Read, Write};
@@ -54,10 +54,11 @@ where
     let Ok(opening) = load_opening(alloc, &mut Pieces::new(text, None)) else {
         return Err("a protocol".into());
     };
-    let Ok(hub) = hub_of(alloc, &opening, first, sessions) else {
+    let rooms = rooms_of(alloc, &opening, sessions)?;
+    let Ok(hub) = Hub::of_restored(alloc, &opening.roles, first, rooms) else {
         return Err("no hub".into());
     };
-    match serve_to(rt, &mut writer, hub, port, ONE, None, false) {
+    match serve_to(rt, &mut writer, hub, Vec::new(alloc), port, ONE, false) {
         Ok(()) => Ok(Vec::from_slice(alloc, writer.bytes())?),
         Err(_) => Err("a fault".into()),
     }

@@ -1,13 +1,14 @@
 //! Journals that are kept in files, over memory.
-ghost use Rattle.std.specs.Prelude.{◌≡◌, ◌≤◌, false, length, IfOk};
 
-use crate::protocols::{RELAY, names, opened, types};
+ghost use Rattle.std.specs.Prelude.{◌≡◌, false, IfOk};
+
+use crate::protocols::{RELAY, names, opened};
 use mps_base::{Role, Roles, StepId};
 use mps_command::{Command, Forward};
 use mps_dev::{OverRead, Pieces, Short};
 use mps_hub::{Attended, Desk, Hub, Serving, Unguarded};
-use mps_keeper::{Book, Guest, Recorder, RestoreFault, restore_lines};
-use mps_line::{LineFault, read_journal_line, write_journal_line};
+use mps_keeper::{Book, Guest, Recorder, RestoreFault, Restored, RestoredRoom};
+use mps_line::{LineFault, has_journal_line, read_journal_line, write_journal_line};
 use mps_room::{Caller, Room, Solo};
 use mps_wire::{Ending, converse};
 use std::alloc::Global;
@@ -257,19 +258,10 @@ fn waits_for_what_was_shown_before(rt: HostRuntime) -> Result<(), Fail> {
 
 // ---- restoring
 
-// A caller for each role of the relay, each with a room of its own.
-fn callers(alloc: Global, roles: &Roles) -> Result<Vec<Solo>, Fail>
-    ensures { IfOk result (λ callers. length callers.items ≡ length roles.now) }
-{
-    let mut callers = Vec::new(alloc);
-    for place in 0..roles.count() {
-        callers.push(solo(alloc, place)?)?;
-    }
-    if callers.len() == roles.count() {
-        Ok(callers)
-    } else {
-        Err("as many callers".into())
-    }
+// A room of a new relay.
+fn relay(alloc: Global) -> Result<RestoredRoom, Fail> {
+    let (names, session) = opened(alloc, RELAY)?;
+    Ok(RestoredRoom::new(alloc, names, session)?)
 }
 
 // A text, and what restoring it comes to: so many lines of so many bytes; or the line that isn't restored, and why.
@@ -299,9 +291,8 @@ fn is_restored(
     text: &str,
     comes: Result<(u64, usize), RestoreFault>,
 ) -> Result<bool, Fail> {
-    let roles = names(alloc, 3)?;
-    let mut callers = callers(alloc, &roles)?;
-    let restored = restore_lines(alloc, &roles, &mut callers, text.as_bytes());
+    let mut room = relay(alloc)?;
+    let restored = room.restore_lines(alloc, text.as_bytes());
     Ok(restored.map(|r| (r.lines, r.bytes)) == comes)
 }
 
@@ -313,29 +304,54 @@ fn restores_texts(rt: HostRuntime) -> Result<(), Fail> {
     Ok(())
 }
 
+// The newest number of each role.
+fn newest(room: &RestoredRoom) -> [u64; 3] {
+    match room.numbers.as_slice() {
+        [a, b, c] => [a.last(), b.last(), c.last()],
+        _ => [0; 3],
+    }
+}
+
 #[test]
 fn keeps_numbers(rt: HostRuntime) -> Result<(), Fail> {
     let alloc = rt.alloc();
-    let roles = names(alloc, 3)?;
-    let mut callers = callers(alloc, &roles)?;
-    assert!(rt; restore_lines(alloc, &roles, &mut callers, KEPT).is_ok());
-    let a = callers.as_slice().first().ok_or("a")?;
-    assert!(rt; a.last() == 3 && a.room.entries() == 4);
+    let mut room = relay(alloc)?;
+    assert!(rt; room.restore_lines(alloc, KEPT).is_ok());
+    assert!(rt; room.room.entries() == 4 && newest(&room) == [3, 0, 0]);
+    Ok(())
+}
+
+// Each line of the journal of these entries, of two roles in turn.
+const MIXED: &[u8] = b"a 1 send b 5\nb 1 mark m\na 2 mark k\nb 2 recv a x\nc mark n\n";
+
+// Each entry of the room as a line of a journal, without its number.
+fn lines_of(alloc: Global, room: &Room) -> Result<Vec<u8>, Fail> {
+    let mut text = Vec::new(alloc);
+    for k in 0..room.entries() {
+        let Some(entry) = room.entry(k)? else {
+            return Err("an entry".into());
+        };
+        if !has_journal_line(room.names(), entry.role, &entry.command) {
+            return Err("a line".into());
+        }
+        write_journal_line(room.names(), entry.role, None, &entry.command, &mut text)?;
+        text.push(b'\n')?;
+    }
+    Ok(text)
+}
+
+#[test]
+fn restores_roles_in_order(rt: HostRuntime) -> Result<(), Fail> {
+    let alloc = rt.alloc();
+    let mut room = relay(alloc)?;
+    assert!(rt; room.restore_lines(alloc, MIXED).is_ok());
+    let wanted: &[u8] = b"a send b 5\nb mark m\na mark k\nb recv a x\nc mark n\n";
+    assert!(rt; lines_of(alloc, &room.room)?.as_slice() == wanted);
+    assert!(rt; newest(&room) == [2, 2, 0]);
     Ok(())
 }
 
 // ---- sessions
-
-// A hub of two relays.
-fn hub(alloc: Global) -> Result<Hub, Fail>
-    ensures given { IfOk result (λ h. h.given ≡ false) }
-    ensures first { IfOk result (λ h. h.first ≡ 1) }
-    ensures two { IfOk result (λ h. length h.cells ≡ 2) }
-{
-    let types = types(alloc, RELAY)?;
-    let names = names(alloc, types.len())?;
-    Ok(Hub::open(alloc, &names, types.as_slice(), 2)?)
-}
 
 // What a connection is answered that sends these lines.
 fn answers<R: Wait + 'static>(
@@ -376,44 +392,47 @@ const BY_B: &[u8] = b"join 2 b\nnews 0\n";
 
 const TOLD_B: &[u8] = b"joined 2 b\nnews 3 2\n";
 
-// A session that goes on from lines: a repeats its last line, goes on, and b hears of it.
-fn goes_on<R: Wait + 'static>(
-    rt: &R,
-    alloc: Global,
-    desk: &Desk<'_>,
-    session: u64,
-) -> Result<bool, Fail>
-    requires first { desk.now.first ≡ 1 }
-    requires session { (1 ≤ session) × (session ≤ length desk.now.cells) }
-{
+// A room that two lines led to, of 24 bytes, before a third broke off.
+fn restored(alloc: Global) -> Result<RestoredRoom, Fail> {
     let mut lines = OverRead::new(b"a 1 send b 5\nb recv a x\nb mar".as_slice());
-    let Ok(restored) = desk.restore(rt, alloc, session, &mut lines) else {
-        return Err("not restored".into());
-    };
-    let is_whole = restored.lines == 2 && restored.bytes == 24;
-    Ok(
-        is_whole
-            && is_told(rt, alloc, desk, BY_A, TOLD_A)?
-            && is_told(rt, alloc, desk, BY_B, TOLD_B)?,
-    )
+    let mut room = relay(alloc)?;
+    match room.restore_from(alloc, &mut lines) {
+        Ok(
+            Restored {
+                lines: 2,
+                bytes: 24,
+            },
+        ) => Ok(room),
+        _ => Err("not restored".into()),
+    }
 }
 
+// A hub of session 2, which goes on from lines.
+fn hub(alloc: Global) -> Result<Hub, Fail>
+    ensures { IfOk result (λ hub. hub.given ≡ false) }
+{
+    let room = restored(alloc)?;
+    let names = room.room.names().copy(alloc)?;
+    Ok(Hub::of_restored(alloc, &names, 2, vec![in alloc; room]?)?)
+}
+
+// Once a session is restored, a repeats its last line and goes on, and b hears of it.
 #[test]
 fn sessions_go_on(rt: HostRuntime) -> Result<(), Fail> {
     let alloc = rt.alloc();
     let mut hub = hub(alloc)?;
     let desk = hub.desk(alloc)?;
-    assert!(rt; goes_on(&rt, alloc, &desk, 2)?);
+    assert!(rt; is_told(&rt, alloc, &desk, BY_A, TOLD_A)?);
+    assert!(rt; is_told(&rt, alloc, &desk, BY_B, TOLD_B)?);
     Ok(())
 }
 
 #[test]
 fn names_the_first_bad_line(rt: HostRuntime) -> Result<(), Fail> {
     let alloc = rt.alloc();
-    let mut hub = hub(alloc)?;
-    let desk = hub.desk(alloc)?;
+    let mut room = relay(alloc)?;
     let mut lines = OverRead::new(b"a send b 5\nb recv c x\nund\n".as_slice());
     let fault = RestoreFault::Refused { line: 2 };
-    assert!(rt; desk.restore(&rt, alloc, 1, &mut lines) == Err(fault));
+    assert!(rt; room.restore_from(alloc, &mut lines) == Err(fault));
     Ok(())
 }

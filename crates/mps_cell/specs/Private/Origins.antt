@@ -4,4 +4,4 @@ use Rattle.mps_cell.specs.declared.origin.Origin.{Origin}
 
 -- the opening of the cell
 abbrev pub opening_in : Origin → Opening
-opening_in origin = opening_of origin.room.value origin.session
+opening_in origin = opening_of origin.room.value origin.numbers.value.items origin.session

@@ -3,7 +3,7 @@ use Rattle.std.specs.Prelude.{◌≡◌, ⊤, ℕ, List, Option}
 use Rattle.std.specs.Io.KnownBytes.{Appends}
 use Rattle.mps_hub.specs.declared.server.ServeFault.{ServeFault}
 use Rattle.mps_hub.specs.declared.server.ServeFault.TheVariants.{Accept as NotAccepted, Memory as OutOfMemory, Unrecorded}
-use Rattle.mps_program.specs.Journals.{IsRecordingFault}
+use Rattle.mps_hub.specs.Places.{IsSession}
 use Rattle.mps_program.specs.Served.{IsListeningLine, IsPortFor}
 use Rattle.mps_program.specs.declared.faults.ToolFault.{ToolFault}
 use Rattle.mps_program.specs.declared.faults.ToolFault.TheVariants.{Write, Bind, Accept, JournalLost, Memory}
@@ -16,14 +16,15 @@ TookOne P took taken = (text : List ℕ) × P text × Appends took taken text
 abbrev pub TellsPort : (wanted : ℕ) → List ℕ → Type 0
 TellsPort wanted line = (port : ℕ) × IsPortFor wanted port × IsListeningLine port line
 
--- how the serving itself may fail: it has no port, or can't tell it, it accepts no more, memory ran out, or the
--- sessions fail to be recorded
-abbrev pub IsHubFault : Option (List ℕ) → (first n : ℕ) → ToolFault → Type 0
-IsHubFault folder first n Write = ⊤
-IsHubFault folder first n (Bind why) = ⊤
-IsHubFault folder first n Accept = ⊤
-IsHubFault folder first n Memory = ⊤
-IsHubFault folder first n fault = IsRecordingFault folder first n fault
+-- how the serving itself may fail, where so many sessions from this one on are recorded: it has no port, or can't tell
+-- it, it accepts no more, memory ran out, or lines of a recorded session are lost
+abbrev pub IsHubFault : (first recorded : ℕ) → ToolFault → Type 0
+IsHubFault first recorded Write = ⊤
+IsHubFault first recorded (Bind why) = ⊤
+IsHubFault first recorded Accept = ⊤
+IsHubFault first recorded Memory = ⊤
+IsHubFault first recorded (JournalLost session) = IsSession first recorded session
+IsHubFault first recorded fault = ⊥
 
 -- why the serving ended, as the program tells it
 abbrev pub of_serving : ServeFault → ToolFault

@@ -1,8 +1,7 @@
--- `Cell::open_numbered` may call `new`, by the lemmas of Keeping.
-use Rattle.std.proofs.Common.{ap}
-use Rattle.mps_room.specs.RoomState.{RoomState}
-use Rattle.mps_cell.proofs.Keeping.{opens_with}
+-- `Cell::open_numbered` meets its clause `opening`, by the lemmas of Dealing.
+use Rattle.std.proofs.Common.{◌∙◌}
+use Rattle.mps_cell.proofs.Dealing.{opened_new}
 use Rattle.mps_cell.proofs.cell.Cell.open_numbered.Goals as goal
 
-pub new-requires : goal.new-requires
-new-requires c = opens_with c.open-room.result _ c.args.number _ _ (ap (λ (m : RoomState). m.journal) c.open-room.ensures) c.of.ensures c.push_reserved.ensures.items c.in_ok-slots.ensures.items
+pub returns-clause-opening : goal.returns-clause-opening
+returns-clause-opening c = opened_new c.open_with.result _ _ _ _ _ c.open_with.ensures.opening c.open-room.ensures c.in_ok-numbers.ensures.none (c.in_ok-numbers.ensures.count ∙ c.count.ensures.count ∙ c.requires.count)
