@@ -49,5 +49,6 @@ recorded_of (Some folder) n = n
 
 -- how the rooms of so many sessions may fail to be had, which are recorded in this folder, if they are
 abbrev pub IsSessionsFault : Option (List ℕ) → (first n : ℕ) → ToolFault → Type 0
-IsSessionsFault None first n fault = fault ≡ Memory
+IsSessionsFault None first n Memory = ⊤
+IsSessionsFault None first n fault = ⊥
 IsSessionsFault (Some folder) first n fault = IsJournalFault folder first n fault
