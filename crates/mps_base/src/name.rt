@@ -40,7 +40,6 @@ impl PartialEq for Name {
 
     ghost laws = { partial_equiv_from_equiv nat_list_eq_equiv };
 
-    // Whether both names are spelled alike.
     fn eq(&self, other: &Name) -> bool {
         self.is(other)
     }
@@ -50,12 +49,12 @@ impl Eq for Name {
     ghost laws = { nat_list_eq_equiv };
 }
 
+// As a text is hashed: its bytes, and then one that none has.
 impl Hash for Name {
     ghost hash_input = { fed.str };
 
     ghost respects_eq = { Prim.search (hashing, rules) };
 
-    // Hashes the name as a `str` is hashed: its bytes, and then 0xff, which stands in no name.
     fn hash<H: Hasher>(&self, state: &mut H) {
         state.write(self.as_bytes());
         state.write_u8(0xff);
@@ -63,7 +62,7 @@ impl Hash for Name {
 }
 
 impl Name {
-    /// Makes a name of these bytes; `None` where they spell no name, as a reserved word does.
+    /// The name of these bytes.
     pub fn read(bytes: &[u8]) -> Option<Name>
         ensures some { IsSome result ↔ IsName bytes.now }
         ensures name { IfSome result (λ name. name ≡ bytes.now) }
@@ -74,7 +73,7 @@ impl Name {
         Some(Name(name_bytes(bytes)?))
     }
 
-    /// The bytes of the name, from the first to the last.
+    /// Its bytes, from the first to the last.
     pub fn as_bytes(&self) -> &[u8]
         ensures bytes { result.now ≡ self.now }
         ensures name { IsName self.now }
@@ -82,8 +81,8 @@ impl Name {
         self.0.as_bytes()
     }
 
-    /// The bytes of the name, and bytes after them of which nothing is promised. All 32 are copied at once, which takes
-    /// less than to copy as many as the name has.
+    /// Its bytes, and bytes after them of which nothing is promised. All 32 are copied at once, which takes less than to
+    /// copy as many as it has.
     #[inline(always)]
     pub fn padded(&self) -> [u8; MAX_NAME]
         ensures bytes { take (length self.now) result ≡ self.now }
@@ -92,14 +91,14 @@ impl Name {
         self.0.padded()
     }
 
-    /// Whether both names are spelled alike.
+    /// Whether it is spelled like that name.
     pub fn is(&self, other: &Name) -> bool
         ensures { IsTrue result ↔ (self.now ≡ other.now) }
     {
         self.is_spelled(other.as_bytes())
     }
 
-    /// Whether these bytes, which may be any, are those of the name.
+    /// Whether it is spelled so.
     pub fn is_spelled(&self, bytes: &[u8]) -> bool
         ensures { IsTrue result ↔ (self.now ≡ bytes.now) }
     {
@@ -107,7 +106,7 @@ impl Name {
     }
 }
 
-// Whether the bytes are 1 to 32, of which the first is a small letter.
+// Whether a small letter comes first, of not too many bytes.
 fn begins_as_name(bytes: &[u8]) -> bool
     ensures { IsTrue result ↔ ((0 < length bytes.now) × (length bytes.now ≤ 32)
         × IsTrue (is_lower (slice_index bytes.now 0))) }
@@ -118,7 +117,7 @@ fn begins_as_name(bytes: &[u8]) -> bool
     }
 }
 
-// The bytes as a word, if each is one that a name may contain. They are looked at and kept in one pass.
+// The bytes, if a name may contain each of them: they are looked at and kept in one go.
 fn name_bytes(bytes: &[u8]) -> Option<Inline>
     requires { length bytes.now ≤ 32 }
     ensures some { IsSome result ↔ AllByRecursion (λ c. IsTrue (is_name_byte c)) bytes.now }
@@ -141,7 +140,7 @@ fn is_free(bytes: &[u8]) -> bool
     bytes.len() < 3 || bytes.len() > 5 || is_no_word(bytes)
 }
 
-// Whether the bytes are none of the reserved words. It isn't inlined, since most names are free by their length.
+// Whether the bytes are none of the reserved words.
 #[inline(never)]
 fn is_no_word(bytes: &[u8]) -> bool
     ensures { IsTrue result ↔ IsNoneOf reserved_words bytes.now }
@@ -156,14 +155,14 @@ fn is_no_structure(bytes: &[u8]) -> bool
     bytes != b"roles".as_slice() && bytes != b"rec".as_slice() && bytes != b"end".as_slice()
 }
 
-// Whether the bytes are no word for a sort.
+// Whether the bytes are no sort.
 fn is_no_sort(bytes: &[u8]) -> bool
     ensures { IsTrue result ↔ IsNoneOf sort_words bytes.now }
 {
     bytes != b"int".as_slice() && bytes != b"bool".as_slice() && bytes != b"text".as_slice()
 }
 
-// Whether the bytes are no word for a truth value.
+// Whether the bytes are no truth value.
 fn is_no_bool(bytes: &[u8]) -> bool
     ensures { IsTrue result ↔ IsNoneOf bool_words bytes.now }
 {

@@ -24,8 +24,7 @@ pub enum ValueFault {
 }
 
 impl Value {
-    /// Reads a value, which takes all of the bytes: an integer, `true` or `false`, or a text between quotes. Bytes that
-    /// spell no value are `Bad`.
+    /// Reads a value that takes all of the bytes.
     #[tactic(auto, using(crate::proofs::Values::no_value, crate::proofs::Values::quoted_same))]
     pub fn read(alloc: Global, bytes: &[u8]) -> Result<Value, ValueFault>
         ensures read { IfOk result (SpellsValue bytes.now) }
@@ -47,7 +46,7 @@ impl Value {
         }
     }
 
-    /// Writes the value at the end of `out` as it is spelled: an integer, `true` or `false`, or a text between quotes.
+    /// Writes the value at the end.
     pub fn write(&self, out: &mut Vec<u8>) -> Result<(), AllocError>
         ensures ok { OnOk result
             (AppendsSuch (λ text. SpellsValue text self.now) out.old.items out.new.items) }
@@ -70,14 +69,14 @@ pub fn one_spelling()
     ensures no_name { (a : List ℕ) (v : Value) → SpellsValue a v → IsName a → ⊥ }
 {}
 
-/// The spelling of a value stands on one line, and has at least one byte.
+/// A spelling stands on one line, and has a byte at least.
 #[tactic(auto, using(crate::proofs::Values::shown))]
 pub fn one_line()
     ensures some { (a : List ℕ) (v : Value) → SpellsValue a v → 0 < length a }
     ensures shown { (a : List ℕ) (v : Value) → SpellsValue a v → AllByRecursion IsShown a }
 {}
 
-// The truth value whose word the bytes are, if they are one.
+// The truth value that the bytes are the word for.
 fn read_bool(bytes: &[u8]) -> Option<bool>
     ensures read { IfSome result (λ b. bytes.now ≡ bool_word b) }
     ensures none { IfNone result ((b : Bool) → bytes.now ≢ bool_word b) }
@@ -89,7 +88,7 @@ fn read_bool(bytes: &[u8]) -> Option<bool>
     }
 }
 
-// The bytes between the first and the last, where these two are quotes. What stands there isn't looked at.
+// What stands between the quotes, where the bytes begin and end with one.
 fn unquoted(bytes: &[u8]) -> Option<&[u8]>
     ensures found { IfSome result (λ inside. bytes.now ≡ quoted inside.now) }
     ensures none { IfNone result ((inside : List ℕ) → bytes.now ≢ quoted inside) }
@@ -100,8 +99,7 @@ fn unquoted(bytes: &[u8]) -> Option<&[u8]>
     }
 }
 
-// Makes a text value of a copy of these bytes, which stood between quotes. They are looked at before memory is asked
-// for, so bytes that are no text are `Bad` whatever memory there is.
+// The text that these bytes are, found between quotes.
 fn read_text(alloc: Global, inside: &[u8]) -> Result<Value, ValueFault>
     ensures read { IfOk result (λ v. (v ≡ values.Text inside.now) × IsText inside.now) }
     ensures bad { IsErrOf result ValueFault.Bad → ¬ IsText inside.now }
@@ -114,14 +112,12 @@ fn read_text(alloc: Global, inside: &[u8]) -> Result<Value, ValueFault>
     Ok(Value::Text(text))
 }
 
-// Writes a text's bytes between quotes at the end of `out`, or nothing where memory runs out. None of them needs an
-// escape.
+// Writes the bytes between quotes, or nothing.
 fn write_quoted(bytes: &[u8], out: &mut Vec<u8>) -> Result<(), AllocError>
     requires { IsText bytes.now }
     ensures ok { OnOk result (out.new.items ≡ out.old.items ++ quoted bytes.now) }
     ensures err { OnErr result (out.new.items ≡ out.old.items) }
 {
-    // for both quotes too, so that nothing below fails
     out.reserve(bytes.len() + 2)?;
     out.push(b'"')?;
     out.extend_from_slice(bytes)?;

@@ -24,7 +24,7 @@ impl Model for VarName {
 }
 
 impl VarName {
-    /// Makes a variable's name of these bytes; `None` where they spell no variable.
+    /// The variable of these bytes.
     pub fn read(bytes: &[u8]) -> Option<VarName>
         ensures some { IsSome result ↔ IsVariable bytes.now }
         ensures name { IfSome result (λ name. name ≡ bytes.now) }
@@ -36,7 +36,7 @@ impl VarName {
         }
     }
 
-    /// The bytes of the name, from the first to the last.
+    /// Its bytes, from the first to the last.
     pub fn as_bytes(&self) -> &[u8]
         ensures bytes { result.now ≡ self.now }
         ensures name { IsVariable self.now }
@@ -44,7 +44,7 @@ impl VarName {
         self.0.as_bytes()
     }
 
-    /// Whether both variables are spelled alike.
+    /// Whether it is spelled like that variable.
     pub fn is(&self, other: &VarName) -> bool
         ensures { IsTrue result ↔ (self.now ≡ other.now) }
     {
@@ -52,8 +52,7 @@ impl VarName {
     }
 }
 
-// Whether the bytes spell a variable: 1 to 32 of them, a capital letter first, and each one that a variable may
-// contain.
+// Whether the bytes are a recursion variable.
 fn is_variable(bytes: &[u8]) -> bool
     ensures { IsTrue result ↔ IsVariable bytes.now }
 {
@@ -65,7 +64,7 @@ fn is_variable(bytes: &[u8]) -> bool
     }
 }
 
-// Whether each of the bytes may stand in a variable: a capital letter, a digit or `_`.
+// Whether a variable may contain each of the bytes.
 fn has_variable_bytes(bytes: &[u8]) -> bool
     ensures { IsTrue result ↔ AllByRecursion (λ c. IsTrue (is_variable_byte c)) bytes.now }
 {

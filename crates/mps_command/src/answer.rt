@@ -51,7 +51,6 @@ pub enum Refusal {
 impl From<AllocError> for Refusal {
     ghost from_gives = { λ _ e. e ≡ OutOfMemory };
 
-    // A failed allocation is `Memory`.
     fn from(_e: AllocError) -> Refusal {
         Refusal::Memory
     }
@@ -60,7 +59,6 @@ impl From<AllocError> for Refusal {
 impl<T: Drop> From<AllocFailed<T>> for Refusal {
     ghost from_gives = { λ _ e. e ≡ OutOfMemory };
 
-    // A failed allocation is `Memory`; what it gives back is dropped.
     fn from(_e: AllocFailed<T>) -> Refusal {
         Refusal::Memory
     }
@@ -74,7 +72,7 @@ pub struct Done {
 }
 
 impl Done {
-    /// A copy of the answer. Only that of a text allocates.
+    /// The same answer once more.
     pub fn copy(&self, alloc: Global) -> Result<Done, AllocError>
         ensures { IfOk result (λ done. done ≡ self.now) }
     {
@@ -102,7 +100,7 @@ pub enum Answer {
 }
 
 impl Answer {
-    /// A copy of the answer. A text, a shown session and a list of numbers may allocate.
+    /// The same answer once more.
     pub fn copy(&self, alloc: Global) -> Result<Answer, AllocError>
         ensures { IfOk result (λ answer. answer ≡ self.now) }
     {

@@ -17,7 +17,6 @@ pub struct OverRead<R> {
 impl<R> OverRead<R> {
     ghost use Rattle.mps_dev.specs.Standard.{reader_of, calls_of, failed_reads_of, ends_of};
 
-    /// A source over this reader, which starts with each count at 0.
     pub fn new(inner: R) -> Self
         ensures reader { reader_of result ≡ inner }
         ensures calls { calls_of result ≡ 0 }
@@ -32,7 +31,7 @@ impl<R> OverRead<R> {
         }
     }
 
-    /// Takes the reader out again, as the last read left it. The counts are dropped.
+    /// The reader, where the last read left it.
     pub fn into_inner(self) -> R
         ensures { result ≡ reader_of self }
     {
@@ -54,7 +53,6 @@ impl<R: Read> Source for OverRead<R> {
 
     ghost fewer_failed = { λ s. s.fewer_failed };
 
-    // One read of the reader, also after an end or a failure. To read nothing into an empty `buf` is no end.
     fn read(&mut self, buf: &mut [u8]) -> Result<usize, Failed> {
         self.calls += 1;
         match self.inner.read(buf) {
@@ -72,9 +70,10 @@ impl<R: Read> Source for OverRead<R> {
     }
 }
 
-/// A sink over one of std's writers: a call of `write` is one write to it. Each `io::Error` is `Failed`, one of kind
-/// `Interrupted` too, and so is an `Ok(0)` for some bytes. Nothing is flushed: a writer that keeps bytes back, as a
-/// `BufWriter` does, is flushed by whoever takes it out again.
+/// A sink over one of std's writers: a call of `write` is one write to it. Each `io::Error` is
+/// `Failed`, one of kind `Interrupted` too, and so is an `Ok(0)` for some bytes. Nothing is
+/// flushed: a writer that keeps bytes back, as a `BufWriter` does, is flushed by who takes it out
+/// again.
 #[derive(Debug, Drop)]
 pub struct OverWrite<W> {
     inner: W,
@@ -84,7 +83,6 @@ pub struct OverWrite<W> {
 impl<W> OverWrite<W> {
     ghost use Rattle.mps_dev.specs.Standard.{writer_of, failed_writes_of};
 
-    /// A sink over this writer, which starts with no failure counted.
     pub fn new(inner: W) -> Self
         ensures writer { writer_of result ≡ inner }
         ensures failures { failed_writes_of result ≡ 0 }
@@ -95,7 +93,7 @@ impl<W> OverWrite<W> {
         }
     }
 
-    /// Takes the writer out again, as the last write left it, unflushed. The count is dropped.
+    /// The writer, where the last write left it.
     pub fn into_inner(self) -> W
         ensures { result ≡ writer_of self }
     {
@@ -111,8 +109,6 @@ impl<W: Write> Sink for OverWrite<W> {
 
     ghost failed_calls = { failed_writes_of };
 
-    // One write to the writer, also after a failure. An `Ok(0)` for some bytes is a failure, so loops over writes make
-    // progress.
     fn write(&mut self, bytes: &[u8]) -> Result<usize, Failed> {
         match self.inner.write(bytes) {
             Ok(n) if n > 0 || bytes.is_empty() => Ok(n),

@@ -5,4 +5,3 @@ pub mod Recording
 pub mod Restoring
 pub mod Rerunning
 pub mod Restarting
-pub mod Sealed

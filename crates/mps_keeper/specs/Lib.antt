@@ -7,4 +7,3 @@ pub mod BookParts
 pub mod Restored
 pub mod RestoredFaults
 pub mod Restarted
-pub mod Chains

@@ -7,8 +7,7 @@ use mps_base::{Name, Role, Sort, VarName};
 use std::alloc::{AllocError, Global};
 
 impl Local {
-    /// `rec` of the variable, and then the body, in which the variable stands for the whole. The body is dropped where
-    /// memory runs out.
+    /// `rec` of the variable, and then the body, in which the variable stands for the whole.
     pub fn rec(alloc: Global, name: VarName, body: Local) -> Result<Local, AllocError>
         ensures { IfOk result (λ t. plain t ≡ Rec name (plain body)) }
     {
@@ -16,7 +15,7 @@ impl Local {
         Ok(Local::Rec(name, body))
     }
 
-    /// An output of a value of the sort to the peer, and then `next`, which is dropped where memory runs out.
+    /// An output to the peer, and then `next`.
     pub fn send(alloc: Global, peer: Role, sort: Sort, next: Local) -> Result<Local, AllocError>
         ensures { IfOk result (λ t. plain t ≡ Send peer sort (plain next)) }
     {
@@ -24,7 +23,7 @@ impl Local {
         Ok(Local::Send { peer, sort, next })
     }
 
-    /// An input of a value of the sort from the peer, and then `next`, which is dropped where memory runs out.
+    /// An input from the peer, and then `next`.
     pub fn recv(alloc: Global, peer: Role, sort: Sort, next: Local) -> Result<Local, AllocError>
         ensures { IfOk result (λ t. plain t ≡ Recv peer sort (plain next)) }
     {
@@ -34,7 +33,7 @@ impl Local {
 }
 
 impl Branches {
-    /// A branch in front of the others. What follows its label, and the others, are dropped where memory runs out.
+    /// A branch in front of the others.
     pub fn more(
         alloc: Global,
         label: Name,

@@ -18,8 +18,7 @@ enum Bound<'a> {
     Inside(&'a VarName, &'a Bound<'a>),
 }
 
-/// Whether the loop `rec name . body` is the end for the role: the role takes no part in it, and it has no free
-/// variable.
+/// Whether a loop is none for the role: the role takes no part in it, and it has no free variable.
 pub(crate) fn is_idle(roles: &[Name], name: &VarName, body: &Global, role: Role) -> bool
     requires few { length roles.now ≤ 8 }
     ensures { result ≡ is_idle roles.now role name.now (plain body.now) }
@@ -58,7 +57,7 @@ fn occurs(roles: &[Name], tree: &Global, role: Role) -> bool
     }
 }
 
-// Whether the role sends or receives anywhere in the branches.
+// The same of the branches.
 #[cycle(occurs)]
 fn occurs_in(roles: &[Name], branches: &Branches, role: Role) -> bool
     requires few { length roles.now ≤ 8 }
@@ -72,7 +71,7 @@ fn occurs_in(roles: &[Name], branches: &Branches, role: Role) -> bool
     }
 }
 
-// Whether each variable of the tree stands in a `rec` of it, or is one of `bound`.
+// Whether each variable of the tree stands in a `rec` of it, or is one of these.
 #[cycle(closed)]
 fn is_closed(tree: &Global, bound: &Bound<'_>) -> bool
     ensures { result ≡ is_closed (names_bound bound.now) (plain tree.now) }
@@ -86,7 +85,7 @@ fn is_closed(tree: &Global, bound: &Bound<'_>) -> bool
     }
 }
 
-// Whether each variable of the branches stands in a `rec` of them, or is one of `bound`.
+// The same of the branches.
 #[cycle(closed)]
 fn are_closed(branches: &Branches, bound: &Bound<'_>) -> bool
     ensures { result ≡ are_closed (names_bound bound.now) (plain_branches branches.now) }
@@ -99,7 +98,7 @@ fn are_closed(branches: &Branches, bound: &Bound<'_>) -> bool
     }
 }
 
-// Whether the variable is one of `bound`.
+// Whether the variable is one of these.
 fn is_bound(name: &VarName, bound: &Bound<'_>) -> bool
     ensures { result ≡ list_any (bytes_eq name.now) (names_bound bound.now) }
 {
@@ -122,7 +121,7 @@ pub(crate) fn choice_count(tree: &Global) -> usize
     }
 }
 
-// How many choices the branches have, which is at most 256.
+// The same of the branches.
 #[cycle(choices)]
 fn branch_choices(branches: &Branches) -> usize
     requires few { branch_choices (plain_branches branches.now) ≤ 256 }

@@ -20,7 +20,7 @@ use std::alloc::{AllocError, Global};
 use std::io;
 use std::rt::Files;
 
-/// A line for each role, in order: its name, ` : `, and its local type.
+/// A line for each role: its name, ` : `, and its local type.
 pub fn lines_of(alloc: Global, opening: &Opening) -> Result<Vec<u8>, AllocError>
     ensures { IfOk result (λ out. out.items ≡ role_lines opening.now.roles 0 (map plain opening.now.types.items)) }
 {
@@ -29,8 +29,7 @@ pub fn lines_of(alloc: Global, opening: &Opening) -> Result<Vec<u8>, AllocError>
     Ok(out)
 }
 
-// Writes the lines of the roles from that place on, which have these types, at the end of `out`. After an error some of
-// them may stand there.
+// Writes a line for each role from that place on at the end.
 fn write_lines(
     alloc: Global,
     out: &mut Vec<u8>,
@@ -54,7 +53,7 @@ fn write_lines(
     }
 }
 
-// Writes the line of the role at that place at the end of `out`. After an error a part of it may stand there.
+// Writes the line of the role at that place at the end.
 fn write_role(
     alloc: Global,
     out: &mut Vec<u8>,
@@ -69,7 +68,6 @@ fn write_role(
         ≡ out.old.items ++ role_line roles.now place (plain t.now)) }
 {
     let text = write_local(alloc, roles, t)?;
-    // places of roles are below 8, so they fit
     out.extend_from_slice(roles.name(Role::new(place as u8)).as_bytes())?;
     out.extend_from_slice(b" : ")?;
     out.extend_from_slice(&text)?;
@@ -79,7 +77,7 @@ fn write_role(
 
 /// Reads a protocol, and writes a line for each role: its name, ` : `, and its local type.
 ///
-/// All is read and checked before the first byte is written. Where a write fails, a front of the lines may be written.
+/// All is read and checked before the first byte is written.
 pub fn write_types<'a, R: Source, W: Sink>(
     alloc: Global,
     reader: &mut R,

@@ -39,7 +39,7 @@ impl Heard {
         }
     }
 
-    /// The places of the entries that the role hears of, in order. A role that there isn't hears of nothing.
+    /// The role's list. A role that there isn't hears of nothing.
     pub(crate) fn list(&self, role: Role) -> &[u32]
         requires few { self.now.count ≤ 8 }
         requires each { length self.now.lists ≡ 8 }
@@ -53,8 +53,7 @@ impl Heard {
         self.lists[role.index()].as_slice()
     }
 
-    /// Reserves memory for one place more in the list of each role but the asker's, who hears nothing of its own doing.
-    /// After an error some of the lists may have it.
+    /// Reserves memory for one place more in the list of each role but this one.
     #[inline(never)]
     pub(crate) fn reserve(&mut self, asker: Role) -> Result<(), AllocError>
         requires few { self.old.count ≤ 8 }
@@ -74,7 +73,7 @@ impl Heard {
     }
 
     /// Adds the place of an entry to the list of each role that hears of it: one of these steps, which the asker took
-    /// back, was its own. Memory for it was reserved.
+    /// back, was its own.
     #[inline(never)]
     pub(crate) fn note(&mut self, steps: &Steps, asker: Role, ids: &[StepId], place: u32)
         requires few { self.old.count ≤ 8 }
@@ -96,7 +95,7 @@ impl Heard {
     }
 }
 
-// Reserves memory for one place more in the list at `k`.
+// Reserves memory for one place more in one list.
 fn reserve_at(lists: &mut [Vec<u32>; 8], k: usize) -> Result<(), AllocError>
     requires { k < length lists.old }
     ensures each { length lists.new ≡ length lists.old }
@@ -108,7 +107,7 @@ fn reserve_at(lists: &mut [Vec<u32>; 8], k: usize) -> Result<(), AllocError>
     lists[k].reserve(1)
 }
 
-// Adds a place to the list at `k`, which has space for it.
+// Adds a place to one list.
 fn push_at(lists: &mut [Vec<u32>; 8], k: usize, place: u32)
     requires list { k < length lists.old }
     requires space { (d : _) → vec_len (slice_index_or lists.old k d) < vec_capacity (slice_index_or lists.old k d) }
@@ -119,7 +118,7 @@ fn push_at(lists: &mut [Vec<u32>; 8], k: usize, place: u32)
     lists[k].push_reserved(place);
 }
 
-// For each of 8 roles whether one of the steps is its own.
+// Whether each role owns one of the steps.
 fn losers(steps: &Steps, ids: &[StepId]) -> [bool; 8]
     ensures { (p : ℕ) → p < 8 → slice_index_or result p false ≡ list_any (owns steps.now.owners.items p) ids.now }
 {

@@ -90,10 +90,9 @@ impl Model for NarrowEntry {
 }
 
 impl NarrowEntry {
-    /// Puts the entry of a command at the end of a journal, by the gist of its answer, which is one of such a command,
-    /// and the place of the entry that gave the message that it took, if it took one. It does not allocate. Each form
-    /// is written where it stays, since a form that came from one of several places would be moved in many small
-    /// pieces.
+    /// Puts the entry of a command at the end of a journal, by the gist of its answer and the place of the entry that
+    /// gave the message that it took, if it took one. It does not allocate. Each form is written where it stays, since
+    /// a form that came from one of several places would be moved in many small pieces.
     #[inline(always)]
     pub(crate) fn push(
         journal: &mut Vec<NarrowEntry>,
@@ -106,12 +105,10 @@ impl NarrowEntry {
         requires space { vec_len journal.old + 1 ≤ vec_capacity journal.old }
         ensures { journal.new.items ≡ journal.old.items ++ narrow role command gist sent_at ∷ [] }
     {
-        // a role's place fits a byte
         let by = role.index() as u8;
         match command {
             Command::Forward(step) => match gist {
                 Gist::Stepped { id, .. } => push_step(journal, role, step, id, sent_at),
-                // the clause `fits` excludes this and the arms like it
                 _ => unreachable!(),
             },
             Command::Undo(id) => put(journal, Form::Undone { role: by, id }),
@@ -137,15 +134,14 @@ impl NarrowEntry {
         }
     }
 
-    /// Whose entry it is, and its command, made anew.
+    /// Whose entry it is, and what was asked for.
     pub(crate) fn asked(&self, alloc: Global) -> Result<(Role, Command), AllocError>
         ensures { IfOk result (λ asked. asked ≡ (self.now.entry.role, self.now.entry.command)) }
     {
         Ok((self.form.role(), self.form.command(alloc)?))
     }
 
-    /// The answer to the entry's command, made anew. What a receipt took is found in this journal, in the entry of its
-    /// send.
+    /// How it was answered, in this journal.
     pub(crate) fn answer(
         &self,
         journal: &[NarrowEntry],
@@ -169,7 +165,7 @@ impl NarrowEntry {
         })
     }
 
-    /// The numbers of the steps that the entry took back; none of a new step.
+    /// The numbers of the steps that were taken back.
     pub(crate) fn undone(&self) -> &[StepId]
         ensures { result.now ≡ undone_by self.now.entry.answer }
     {
@@ -181,7 +177,7 @@ impl NarrowEntry {
     }
 }
 
-// Puts a form at the end of a journal, which has space for it.
+// Puts a form at the end of a journal.
 #[inline(always)]
 fn put(journal: &mut Vec<NarrowEntry>, form: Form)
     requires { vec_len journal.old + 1 ≤ vec_capacity journal.old }
@@ -190,8 +186,7 @@ fn put(journal: &mut Vec<NarrowEntry>, form: Form)
     journal.push_reserved(NarrowEntry { form });
 }
 
-// Puts the entry of a new step at the end of a journal, with the place of the entry that gave the message that it took.
-// A receipt or a pick has such a place, and nothing else has.
+// Puts a step that was taken, and the place of the entry that gave the message that it took.
 #[inline(always)]
 fn push_step(
     journal: &mut Vec<NarrowEntry>,
@@ -206,7 +201,6 @@ fn push_step(
     ensures { journal.new.items ≡ journal.old.items
         ++ narrow role (commands.Forward step) (gists.Stepped id None) sent_at ∷ [] }
 {
-    // a role's place fits a byte; by the clause `small` the number fits too
     let by = role.index() as u8;
     let id = id.number() as u32;
     match step {
@@ -222,7 +216,6 @@ fn push_step(
         Forward::Receive { from, slot } => {
             let pair = Pair::of(role, from);
             let slot = NarrowName::of(&slot);
-            // the clause `such` says that there is one, as below
             let place = sent_at.unwrap();
             let form = Form::Received {
                 pair,
@@ -246,7 +239,7 @@ fn push_step(
 }
 
 impl Pair {
-    // The pair of a role and its peer, each in a byte.
+    // Of a role and the one that it has to do with.
     fn of(role: Role, peer: Role) -> Pair
         ensures role { result.role ≡ role }
         ensures peer { result.peer ≡ peer }
@@ -257,7 +250,7 @@ impl Pair {
         }
     }
 
-    // The peer, with whom the role has to do.
+    // Whom the role has to do with.
     fn peer(self) -> Role
         ensures { result ≡ self.peer }
     {
@@ -266,7 +259,7 @@ impl Pair {
 }
 
 impl Form {
-    // The role whose entry it is.
+    // Whose entry it is.
     fn role(&self) -> Role
         ensures { result ≡ role_in self.now }
     {
@@ -283,7 +276,7 @@ impl Form {
         })
     }
 
-    // The command that was accepted, made anew. Only that of a send of a text allocates.
+    // What was asked for.
     fn command(&self, alloc: Global) -> Result<Command, AllocError>
         ensures { IfOk result (λ command. command ≡ command_in self.now) }
     {
@@ -309,7 +302,7 @@ impl Form {
         })
     }
 
-    // The message that the entry's step gave, if it gave one. Only that of a text allocates.
+    // The message that it gave.
     fn given(&self, alloc: Global) -> Result<Option<Message>, AllocError>
         ensures { IfOk result (λ message. message ≡ given_in (command_in self.now)) }
     {
@@ -327,7 +320,7 @@ impl Form {
     }
 }
 
-// The message that the entry at the place gave; none where it gave none, or there is no such entry.
+// The message that the entry at the place gave.
 fn message_at(
     journal: &[NarrowEntry],
     place: u32,
@@ -341,7 +334,7 @@ fn message_at(
     }
 }
 
-// The answer to a new step of this number, with the message that it took, if it took one.
+// The answer to a step of this number.
 fn done(id: u32, got: Option<Message>) -> Answer
     ensures { result ≡ step_done id got }
 {

@@ -24,7 +24,7 @@ impl Model for NarrowName {
 }
 
 impl NarrowName {
-    /// Puts a name into this form. Its length, at most 32, fits a byte.
+    /// The name in this form.
     #[inline(always)]
     pub(crate) fn of(name: &Name) -> NarrowName
         ensures { result ≡ name.now }
@@ -35,11 +35,10 @@ impl NarrowName {
         }
     }
 
-    /// Makes the name again.
+    /// The name itself.
     pub(crate) fn name(&self) -> Name
         ensures { result ≡ self.now }
     {
-        // these bytes were a name's, so they are read as one
         Name::read(&self.bytes[..self.len as usize]).unwrap()
     }
 }

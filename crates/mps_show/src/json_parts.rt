@@ -13,7 +13,7 @@ use serde_json::{Value as Json, json};
 use std::alloc::{AllocError, Global};
 use std::str;
 
-// Makes a JSON string of bytes below 128. They are UTF-8, so only memory may be lacking.
+// Bytes below 128 as a string.
 fn text(alloc: Global, bytes: &[u8]) -> Result<Json, AllocError>
     requires { IsAscii bytes.now }
     ensures { IfOk result (λ v. view v ≡ string bytes.now) }
@@ -24,14 +24,14 @@ fn text(alloc: Global, bytes: &[u8]) -> Result<Json, AllocError>
     }
 }
 
-// Makes a JSON string of a name.
+// A name.
 fn name(alloc: Global, name: &Name) -> Result<Json, AllocError>
     ensures { IfOk result (λ v. view v ≡ string name.now) }
 {
     text(alloc, name.as_bytes())
 }
 
-/// Makes a JSON string of the name of a role.
+/// The name of a role.
 pub(crate) fn role(alloc: Global, names: &Roles, role: Role) -> Result<Json, AllocError>
     requires { role < length names.now }
     ensures { IfOk result (λ v. view v ≡ role_name names.now role) }
@@ -39,7 +39,7 @@ pub(crate) fn role(alloc: Global, names: &Roles, role: Role) -> Result<Json, All
     name(alloc, &names.name(role))
 }
 
-// Makes a JSON value of a session's value: a number, `true` or `false`, or a string of a text's content.
+// A value.
 fn value(alloc: Global, value: &Value) -> Result<Json, AllocError>
     ensures { IfOk result (λ v. view v ≡ value_shown value.now) }
 {
@@ -50,8 +50,7 @@ fn value(alloc: Global, value: &Value) -> Result<Json, AllocError>
     }
 }
 
-// Makes a JSON value of a message as it stands in a step: a label is a string, since the step's word tells it from a
-// text.
+// A message in a step.
 fn moved(alloc: Global, message: &Message) -> Result<Json, AllocError>
     ensures { IfOk result (λ v. view v ≡ moved_shown message.now) }
 {
@@ -61,7 +60,7 @@ fn moved(alloc: Global, message: &Message) -> Result<Json, AllocError>
     }
 }
 
-/// Makes a JSON value of a message as it stands in a queue: a label is an object, which tells it from a text.
+/// A message in a queue.
 pub(crate) fn waiting(alloc: Global, message: &Message) -> Result<Json, AllocError>
     ensures { IfOk result (λ v. view v ≡ waiting_shown message.now) }
 {
@@ -74,7 +73,7 @@ pub(crate) fn waiting(alloc: Global, message: &Message) -> Result<Json, AllocErr
     }
 }
 
-/// Makes a JSON array of a slot and its value.
+/// A slot with its value.
 pub(crate) fn binding(alloc: Global, slot: &Name, kept: &Value) -> Result<Json, AllocError>
     ensures { IfOk result (λ v. view v ≡ binding_shown (slot.now, kept.now)) }
 {
@@ -84,7 +83,7 @@ pub(crate) fn binding(alloc: Global, slot: &Name, kept: &Value) -> Result<Json, 
     Ok(Json::Array(parts))
 }
 
-/// Makes a JSON array of a step, with the message that it gave or took.
+/// A step, with the message that it gave or took.
 pub(crate) fn step(
     alloc: Global,
     names: &Roles,
@@ -101,7 +100,7 @@ pub(crate) fn step(
     Ok(Json::Array(parts))
 }
 
-// Adds to a step's array what the act is, and what it gave or took.
+// What the act is, and what it gave or took.
 fn push_act(
     alloc: Global,
     names: &Roles,
@@ -121,7 +120,7 @@ fn push_act(
     }
 }
 
-// Adds to a step's array a send or a choice: its word, the peer, and what it gave.
+// A send or a choice.
 fn push_out(
     alloc: Global,
     names: &Roles,
@@ -143,7 +142,7 @@ fn push_out(
     Ok(())
 }
 
-// Adds to a step's array a receipt or a pick: its word, the peer, the slot of a receipt, and what it took.
+// A receipt or a pick.
 fn push_in(
     alloc: Global,
     names: &Roles,
@@ -170,7 +169,7 @@ fn push_in(
     push_taken(alloc, moved, parts)
 }
 
-// Adds to a step's array the message that was taken, if there is one.
+// What was taken.
 fn push_taken(
     alloc: Global,
     taken: Option<&Message>,
@@ -185,7 +184,7 @@ fn push_taken(
     Ok(())
 }
 
-// Adds to a step's array a mark: its word and its name.
+// A mark.
 fn push_mark(alloc: Global, mark: &Name, parts: &mut Vec<Json>) -> Result<(), AllocError>
     ensures { OnOk result (map view parts.new.items
         ≡ map view parts.old.items ++ string (codes "mark") ∷ string mark.now ∷ []) }
@@ -195,7 +194,7 @@ fn push_mark(alloc: Global, mark: &Name, parts: &mut Vec<Json>) -> Result<(), Al
     Ok(())
 }
 
-// Adds to a step's array a commit, which is its word alone.
+// A commit.
 fn push_commit(alloc: Global, parts: &mut Vec<Json>) -> Result<(), AllocError>
     ensures { OnOk result (map view parts.new.items
         ≡ map view parts.old.items ++ string (codes "commit") ∷ []) }

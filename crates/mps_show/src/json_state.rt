@@ -16,8 +16,7 @@ use mps_session::Session;
 use serde_json::{Value as Json, json};
 use std::alloc::{AllocError, Global};
 
-/// What the session shows, as a JSON value: its history, its queues, and each role. The names are those of its roles.
-/// Where memory runs out, what was made is dropped.
+/// What the session shows, as a JSON value: its history, its queues, and each role.
 pub fn show(alloc: Global, names: &Roles, session: &Session) -> Result<Json, AllocError>
     requires { length names.now ≡ length session.now.types }
     ensures { IfOk result (λ v. view v
@@ -29,7 +28,7 @@ pub fn show(alloc: Global, names: &Roles, session: &Session) -> Result<Json, All
     json!(in alloc; {"history": history, "queues": queues, "roles": roles})
 }
 
-// Makes a JSON array of the surviving steps, each with what it gave or took.
+// The surviving steps, each with what it gave or took.
 fn history(alloc: Global, names: &Roles, session: &Session) -> Result<Json, AllocError>
     requires { length names.now ≡ length session.now.types }
     ensures { IfOk result (λ v. view v ≡ row (map (step_shown names.now) (moves_of session.now))) }
@@ -41,7 +40,7 @@ fn history(alloc: Global, names: &Roles, session: &Session) -> Result<Json, Allo
     Ok(Json::Array(rows))
 }
 
-// Makes a JSON array of the queues in which something waits, by sender and then by receiver.
+// The queues in which something waits, by sender and then by receiver.
 fn queues(alloc: Global, names: &Roles, session: &Session) -> Result<Json, AllocError>
     requires { length names.now ≡ length session.now.types }
     ensures { IfOk result (λ v. view v
@@ -49,14 +48,13 @@ fn queues(alloc: Global, names: &Roles, session: &Session) -> Result<Json, Alloc
 {
     let n = session.roles();
     let mut rows = Vec::new(alloc);
-    // places of roles are below 8, so they fit
     for p in 0..n {
         push_queues(alloc, names, session, Role::new(p as u8), &mut rows)?;
     }
     Ok(Json::Array(rows))
 }
 
-// Adds the queues from one role in which something waits, by receiver.
+// The queues from one role.
 fn push_queues(
     alloc: Global,
     names: &Roles,
@@ -70,14 +68,13 @@ fn push_queues(
         ++ queues_from names.now (length session.now.types) (session_view session.now) from) }
 {
     let n = session.roles();
-    // places of roles are below 8, so they fit
     for q in 0..n {
         push_queue(alloc, names, session, from, Role::new(q as u8), rows)?;
     }
     Ok(())
 }
 
-// Adds the queue from one role to another, as an array of both names and the messages, where something waits in it.
+// The queue from one role to another, where something waits in it.
 fn push_queue(
     alloc: Global,
     names: &Roles,
@@ -104,7 +101,7 @@ fn push_queue(
     Ok(())
 }
 
-// Makes JSON values of the messages that wait from one role to another, the first message first.
+// The messages that wait from one role to another.
 fn messages(alloc: Global, session: &Session, from: Role, to: Role) -> Result<Vec<Json>, AllocError>
     ensures { IfOk result (λ all. map view all.items
         ≡ map waiting_shown ((session_view session.now).queue from to)) }
@@ -116,7 +113,7 @@ fn messages(alloc: Global, session: &Session, from: Role, to: Role) -> Result<Ve
     Ok(all)
 }
 
-// Makes a JSON array of the roles, in order.
+// The roles in order.
 fn roles(alloc: Global, names: &Roles, session: &Session) -> Result<Json, AllocError>
     requires { length names.now ≡ length session.now.types }
     ensures { IfOk result (λ v. view v
@@ -124,14 +121,13 @@ fn roles(alloc: Global, names: &Roles, session: &Session) -> Result<Json, AllocE
 {
     let n = session.roles();
     let mut rows = Vec::with_capacity(alloc, n)?;
-    // places of roles are below 8, so they fit
     for p in 0..n {
         rows.push(participant(alloc, names, session, Role::new(p as u8))?)?;
     }
     Ok(Json::Array(rows))
 }
 
-// Makes a JSON object of a role: what it may do next, what it did, its name, and what it keeps.
+// A role: what it may do next, what it did, its name, and what it keeps.
 fn participant(
     alloc: Global,
     names: &Roles,
@@ -151,7 +147,7 @@ fn participant(
     json!(in alloc; {"expects": expects, "past": past, "role": name, "store": store})
 }
 
-// Makes a JSON string of what the role may do next. The words are ASCII, so only memory may be lacking.
+// What the role may do next.
 fn expects(alloc: Global, names: &Roles, session: &Session, role: Role) -> Result<Json, AllocError>
     requires count { length names.now ≡ length session.now.types }
     requires role { role < length session.now.types }
@@ -166,7 +162,7 @@ fn expects(alloc: Global, names: &Roles, session: &Session, role: Role) -> Resul
     }
 }
 
-// Makes a JSON array of the numbers of the role's surviving steps. It walks over the steps of all roles.
+// The numbers of the role's surviving steps.
 fn past(alloc: Global, session: &Session, role: Role) -> Result<Json, AllocError>
     ensures { IfOk result (λ v. view v
         ≡ row (map number_shown (numbers (steps_of role session.now.state.history)))) }
@@ -178,7 +174,7 @@ fn past(alloc: Global, session: &Session, role: Role) -> Result<Json, AllocError
     Ok(Json::Array(all))
 }
 
-// Adds the number of the step, if it is one of the role.
+// The number of a step of the role.
 fn push_own(role: Role, step: &Step, all: &mut Vec<Json>) -> Result<(), AllocError>
     ensures { OnOk result (map view all.new.items ≡ map view all.old.items ++ own_number role step.now) }
 {
@@ -188,7 +184,7 @@ fn push_own(role: Role, step: &Step, all: &mut Vec<Json>) -> Result<(), AllocErr
     Ok(all.push(Json::from(step.id.number()))?)
 }
 
-// Makes a JSON array of the slots of the role, each with its value, in the order in which they were first bound.
+// The slots of the role, each with its value.
 fn store(alloc: Global, session: &Session, role: Role) -> Result<Json, AllocError>
     requires { role < length session.now.types }
     ensures { IfOk result (λ v. view v
@@ -197,7 +193,6 @@ fn store(alloc: Global, session: &Session, role: Role) -> Result<Json, AllocErro
     let count = session.slots(role);
     let mut all = Vec::with_capacity(alloc, count)?;
     for k in 0..count {
-        // never: so many are bound
         let Some(binding) = session.binding(role, k) else {
             unreachable!()
         };

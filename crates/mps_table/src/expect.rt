@@ -26,14 +26,14 @@ impl Node {
         Node(index)
     }
 
-    /// The place of the node as a number, of which `Node::new` makes the node again.
+    /// The number of its place, of which `Node::new` makes it again.
     pub fn number(self) -> u16
         ensures { result ≡ self }
     {
         self.0
     }
 
-    /// The place of the node in its table.
+    /// Its place in the table.
     pub(crate) fn index(self) -> usize
         ensures place { result ≡ self }
         ensures small { result < 2 ^ 16 }

@@ -1,4 +1,4 @@
-//! What the tests of this crate share: protocols, commands and answers as text.
+//! Protocols, commands and answers as text.
 ghost use Rattle.std.specs.Prelude.{◌≡◌, length, IfOk};
 ghost use Rattle.mps_machine.specs.Machine.{initial};
 

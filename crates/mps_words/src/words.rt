@@ -235,13 +235,12 @@ const FORMS: &[Form] = &[
     },
 ];
 
-// The argument, which takes numbers of the range alone.
+// The argument, which takes a number of the range.
 fn ranged<'a>(argument: Arg<'a>, range: Range) -> Arg<'a> {
     argument.value_parser(ValueParser::Unsigned(range.least, range.most))
 }
 
-// The argument that a `Word` describes: its name, help and range, and whether it is required or takes no value. What
-// makes it an option, and on which other option it depends, is set by `option`.
+// The argument that takes the word.
 fn argument<'a>(alloc: Global, word: &Word) -> Arg<'a> {
     let argument = Arg::new(alloc, word.name).help(word.help);
     let argument = match word.range {
@@ -270,7 +269,7 @@ fn verbose<'a>(alloc: Global) -> Result<Arg<'a>, AllocError> {
         .overrides_with(VERBOSE)
 }
 
-// The option that a `Word` describes: its argument, given as `--NAME`, with the option that it requires or excludes.
+// The option that takes the word, with the options on which it depends.
 fn option<'a>(alloc: Global, word: &Word) -> Result<Arg<'a>, AllocError> {
     let option = argument(alloc, word).long(word.name);
     match word.given {
@@ -280,7 +279,7 @@ fn option<'a>(alloc: Global, word: &Word) -> Result<Arg<'a>, AllocError> {
     }
 }
 
-// The command with the options that these `Word`s describe.
+// The command with these options besides.
 fn with_options<'a>(
     alloc: Global,
     mut command: Command<'a>,
@@ -292,8 +291,7 @@ fn with_options<'a>(
     Ok(command)
 }
 
-// The command that a `Form` describes: its name and help, its words, its options, and those of which one at least is
-// given.
+// The command of that form.
 fn command<'a>(alloc: Global, form: &Form) -> Result<Command<'a>, AllocError> {
     let mut command = Command::new(alloc, form.name).about(form.about);
     for word in form.words {
@@ -307,7 +305,7 @@ fn command<'a>(alloc: Global, form: &Form) -> Result<Command<'a>, AllocError> {
     command.group(group.multiple(true).required(true))
 }
 
-// The program with its commands, of which one is required.
+// The program with its commands.
 fn program<'a>(alloc: Global) -> Result<Command<'a>, AllocError> {
     let mut program = Command::new(alloc, "mps_tool")
         .about("A monitor for multiparty sessions")
@@ -320,20 +318,18 @@ fn program<'a>(alloc: Global) -> Result<Command<'a>, AllocError> {
     Ok(program)
 }
 
-// The number that the option was given; none where it wasn't, or isn't in the range.
+// The number that an option has, of its range.
 fn number_in<'a>(found: &ArgMatches<'a>, name: &str, range: Range) -> Option<u64>
     ensures { IfSome result (λ n. (range.least ≤ n) × (n ≤ range.most)) }
 {
     let number = found.get_one::<u64>(name)?;
-    // clap has seen to that, but no clause of clap's says so
     if number < range.least || number > range.most {
         return None;
     }
     Some(number)
 }
 
-// The number that the option was given, or `Some(None)` where it wasn't given; none where it isn't in the range, which
-// clap has seen to.
+// The number that an option may have, of its range; none where it isn't given.
 fn bound_in<'a>(found: &ArgMatches<'a>, name: &str, range: Range) -> Option<Option<u64>>
     ensures { IfSome result (λ given. IfSome given (λ n. (range.least ≤ n) × (n ≤ range.most))) }
 {
@@ -343,14 +339,14 @@ fn bound_in<'a>(found: &ArgMatches<'a>, name: &str, range: Range) -> Option<Opti
     }
 }
 
-// The folder where the sessions are kept, and whether it is synced, if a folder was given.
+// Where the sessions are kept, if they are.
 fn journal_in<'a>(found: &ArgMatches<'a>) -> Option<JournalFolder<'a>> {
     let folder = found.get_str("journal")?;
     let sync = found.get_flag("sync");
     Some(JournalFolder { folder, sync })
 }
 
-// The order to serve the file, with what the options were given. The port is below 2^16 by its range.
+// The order to serve the file, with its options.
 fn serve_in<'a>(file: &'a str, found: &ArgMatches<'a>) -> Option<Order<'a>>
     ensures { IfSome result IsInRange }
 {
@@ -373,8 +369,7 @@ fn serve_in<'a>(file: &'a str, found: &ArgMatches<'a>) -> Option<Order<'a>>
     })
 }
 
-// The task to compare two scripts on sessions of the file's protocol; none where a word is missing, which clap has seen
-// to.
+// The task to compare two scripts.
 fn same_in<'a>(file: &'a str, found: &ArgMatches<'a>) -> Option<Task<'a>> {
     let first = found.get_str("FIRST")?;
     let second = found.get_str("SECOND")?;
@@ -385,7 +380,7 @@ fn same_in<'a>(file: &'a str, found: &ArgMatches<'a>) -> Option<Task<'a>> {
     })
 }
 
-// The task to run a script on a session of the file's protocol; none where a word is missing, which clap has seen to.
+// The task to run a script.
 fn run_in<'a>(file: &'a str, found: &ArgMatches<'a>) -> Option<Task<'a>> {
     let script = found.get_str("SCRIPT")?;
     let strict = found.get_flag("strict");
@@ -396,7 +391,7 @@ fn run_in<'a>(file: &'a str, found: &ArgMatches<'a>) -> Option<Task<'a>> {
     })
 }
 
-// The task of that command; none of `serve`, which is an order of its own, or of an unknown one.
+// The task of that command.
 fn task_in<'a>(command: &str, file: &'a str, found: &ArgMatches<'a>) -> Option<Task<'a>> {
     match command {
         "check" => Some(Task::Check { file }),
@@ -406,8 +401,7 @@ fn task_in<'a>(command: &str, file: &'a str, found: &ArgMatches<'a>) -> Option<T
     }
 }
 
-// The order that stands in the words, as they matched the commands. There is one, since clap has looked at each word;
-// no clause of clap's says so.
+// The order that stands in the words, as they matched the commands. There is one, since clap has looked at each word.
 fn order_in<'a>(matches: &ArgMatches<'a>) -> Option<Order<'a>>
     ensures { IfSome result IsInRange }
 {
@@ -445,7 +439,7 @@ fn unmatched<'a>(alloc: Global, error: &Error) -> Result<Order<'a>, UseFault>
     })
 }
 
-// The order that stands in the words, as they matched the commands. If there is none after all, a word is missing.
+// The order that stands in the words, as they matched the commands, or a fault of use.
 fn matched<'a>(alloc: Global, matches: &ArgMatches<'a>) -> Result<Order<'a>, UseFault>
     ensures range { IfOk result IsInRange }
     ensures fault { IfErr result (Says missing) }
@@ -456,8 +450,7 @@ fn matched<'a>(alloc: Global, matches: &ArgMatches<'a>) -> Result<Order<'a>, Use
     }
 }
 
-/// Reads the order that stands in the words, of which the first is the program's name. Words that ask for help or the
-/// version are an order too; of wrong ones the fault has what clap says.
+/// Reads the words, of which the first is the program's name.
 pub fn order<'a>(alloc: Global, words: &'a [&'a str]) -> Result<Order<'a>, UseFault>
     ensures ranges { IfOk result IsInRange }
 {
@@ -467,7 +460,7 @@ pub fn order<'a>(alloc: Global, words: &'a [&'a str]) -> Result<Order<'a>, UseFa
     }
 }
 
-/// The words that the program is called with, of which the first is its name. One that is no UTF-8 is a fault of use.
+/// The words that the program is called with, of which the first is its name.
 pub fn words_of<R: Env + AllocGlobal>(rt: &R) -> Result<Vec<String>, UseFault>
     ensures { IfErr result (Says no_text) }
 {
