@@ -40,7 +40,7 @@ for order; do
     case $order in -v | --verbose) ;; *) break ;; esac
 done
 case $order in
-'' | --help | -h | help | prove | which | install | explain | library) ;;
+'' | --help | -h | help | prove | which | install | explain | journal | library) ;;
 *)
     if [ -r "$note" ] && read -r sources <"$note" && { echo "$sources"; "$here/tools/look"; } | cmp -s - "$note"; then
         for kind in proved checked; do

@@ -8,6 +8,7 @@ import time
 
 import fast
 import reference
+import journals
 from serving import SECONDS, expect, faults
 
 
@@ -122,10 +123,10 @@ class Client(threading.Thread):
             faults.append(f"{self.role} of session {self.session} never gets its answer")
 
 
-def replayed(protocol, journal):
-    """For each role its lines in the file, without its name, and the answers that the reference gives to them."""
+def replayed(protocol, lines):
+    """For each role its lines, without its name, and the answers that the reference gives to them."""
     room, given = fast.FastRoom(reference.load(protocol)), {}
-    for line in reference.lines_of(journal):
+    for line in lines:
         role, rest = line.decode().split(" ", 1)
         answer = reference.answer(room, f"{role} {re.sub('^[0-9]+ ', '', rest)}".encode())
         if answer.startswith("refused "):
@@ -134,9 +135,12 @@ def replayed(protocol, journal):
     return given
 
 
-def compare(place, protocol, journal, clients):
-    """Whether the session's file gives each of its clients just the answers that it got. How many entries there are."""
-    given = replayed(protocol, journal)
+def compare(place, protocol, session, data, clients):
+    """Whether each line of the session's file has its seal, and the file gives each of its clients just the answers that it
+    got. How many entries there are."""
+    found = journals.read(data, journals.first_seal(protocol, session))
+    expect(f"{place}: the first line of session {session} whose seal is wrong", found.fault, None)
+    given = replayed(protocol, found.lines)
     for client in clients:
         expect(f"{place}: the answers of {client.role} in session {client.session}", client.got, given.get(client.role, []))
     return sum(len(it) for it in given.values())

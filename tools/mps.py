@@ -11,6 +11,9 @@ mps explain FILE               as check; and where the protocol is refused, says
                                can be told apart. The four above tell the first where standard error is a terminal
 mps explain FILE SCRIPT        of each line of the script that is refused or unreadable, where it is and why; ends with 1
                                where there is one, and else with 0
+mps journal FILE [--script]    what the file of a recorded session has, FOLDER/K.journal: how many entries, each role's newest
+                               number, and the first line that is wrong, if one is; with --script its lines as a script.
+                               It asks no server; ends with 3 where a line is wrong, and else with 0
 mps prove                      builds the proved program and the proved library: each crate is proved, side by side on
                                all cores, which takes about half an hour; prints where the program stands
 mps which [--path]             tells which program runs, and of which sources; with --path prints only where it stands
@@ -21,7 +24,7 @@ mps library DIR                copies the library for programs in C, Rust and Py
 mps --version                  the program's version
 mps --help                     this; mps run --help and the like say what the program's own orders take
 
-After explain, install and library a path that begins with - is given as ./-x. With -v or --verbose, before an order or
+After explain, journal, install and library a path that begins with - is given as ./-x. With -v or --verbose, before an order or
 after it, more is told on standard error; where there is no more to tell, as with which, it changes nothing.
 
 The proved program runs where one was built of the sources as they are, else the checked one: the same sources, with a
@@ -45,11 +48,13 @@ sys.path.insert(0, os.path.dirname(os.path.realpath(__file__)))
 import building  # noqa: E402
 import explain  # noqa: E402
 import explain_script  # noqa: E402
+import journal  # noqa: E402
 import output  # noqa: E402
 from sources import built, noted_digest  # noqa: E402
 
 # the words that each order of mps itself may have after it
-USES = {"prove": "", "which": "[--path]", "install": "DIR", "explain": "FILE [SCRIPT]", "library": "DIR"}
+USES = {"prove": "", "which": "[--path]", "install": "DIR", "explain": "FILE [SCRIPT]", "library": "DIR",
+        "journal": "FILE [--script]"}
 PROGRAMS = ("check", "run", "same", "serve")  # the orders of the program
 HELP = ("--help", "-h", "help")
 VERBOSE = ("-v", "--verbose")  # by which the program says more
@@ -71,7 +76,7 @@ def may_follow(order, words):
     """Whether these words may follow an order of mps itself. No path among them begins with `-`."""
     if order == "which":
         return words in ([], ["--path"])
-    if order == "explain" and words[1:] == ["-"]:
+    if order == "explain" and words[1:] == ["-"] or order == "journal" and words[1:] == ["--script"]:
         words = words[:1]
     most = {"prove": 0, "explain": 2}.get(order, 1)
     return min(most, 1) <= len(words) <= most and not any(word.startswith("-") for word in words)
@@ -158,6 +163,8 @@ def main():
         output.write(f"{building.install(program_of(sources), *words)}\n")
     elif order == "explain":
         sys.exit(explained(program_of(sources), *words))
+    elif order == "journal":
+        sys.exit(journal.tell(program_of(sources), words[0], words[1:] == ["--script"]))
     else:
         run(program_of(sources), sys.argv[1:])
 

@@ -12,6 +12,7 @@ import re
 import subprocess
 import tempfile
 
+import journals
 import story_words
 from drawing import Unshown, needs, read_step
 from explain import printable
@@ -123,13 +124,13 @@ def checked(protocol):
 
 
 def lines_of(script):
-    """The lines of a script, and of a kept session's file without the numbers that some have: each as it stands there, and as
-    ./mps runs it. A last line of a kept file that has no LF was cut, and isn't run."""
+    """The lines of a script, and of a kept session's file without their seals: each as it stands there, and as ./mps runs it,
+    without the number that it may have. A last line of a kept file that has no LF was cut, and isn't run."""
     with open(script, "rb") as file:
         *lines, rest = file.read().split(b"\n")
     if not script.endswith(".journal"):
         return [(line, line) for line in lines + [rest] * bool(rest)]
-    return [(line, re.sub(rb"^([a-z][a-z0-9_]*) [0-9]+ (?=.)", rb"\1 ", line)) for line in lines]
+    return [(line, re.sub(rb"^([a-z][a-z0-9_]*) [0-9]+ (?=.)", rb"\1 ", line)) for line in journals.unsealed(lines)]
 
 
 @contextlib.contextmanager

@@ -53,8 +53,8 @@ impl Arena {
         }
     }
 
-    /// Reserves memory for one step more, and tells the key that it will have. Where 2^32 - 1 keys are in use, there is
-    /// none. Nothing else asks for memory.
+    /// Reserves memory for one step more, and tells the key that it will have. Where 2^32 - 1 keys are in use, that is
+    /// reported as lack of memory. No other call allocates.
     #[inline(always)]
     pub fn reserve_one(&mut self) -> Result<Key, AllocError>
         ensures space { OnOk result (IsTrue self.new.has_space) }
@@ -70,7 +70,8 @@ impl Arena {
     }
 
     /// Puts an act of the role after all other steps, unmarked, and tells the number that it has. A receipt or a pick
-    /// comes with the send that it is matched with: the first of its pair that isn't received.
+    /// comes with the send that it is matched with: the first of its pair that isn't received. Memory has to be
+    /// reserved.
     #[inline(always)]
     pub fn add(&mut self, role: Role, act: Act, before: Before, source: Option<Key>) -> StepId
         requires space { IsTrue self.old.has_space }
@@ -98,7 +99,8 @@ impl Arena {
         id
     }
 
-    /// Removes a step that is the last of its role and, if it is a send or a choice, isn't received.
+    /// Removes a step that is the last of its role and, if it is a send or a choice, isn't received. It gives the step,
+    /// and does not allocate.
     pub fn remove(&mut self, key: Key) -> Step
         requires { CanGo self.old.keyed_steps key }
         ensures step { option_map (λ e. e.step) (keyed_at key self.old.keyed_steps) ≡ Some result }
@@ -116,7 +118,7 @@ impl Arena {
         node.step
     }
 
-    /// How many steps there are.
+    /// How many steps there are. The clause `sound` is for callers' proofs, as of `steps_are_sound`.
     pub fn len(&self) -> usize
         ensures count { result ≡ length self.now.keyed_steps }
         // numbers rise, no key stands twice, and no receipt comes before its send
@@ -125,7 +127,7 @@ impl Arena {
         self.nodes.len()
     }
 
-    /// The key of the k-th step, from 0. It takes O(k) time.
+    /// The key of the k-th step, from 0, if there are so many. It takes O(k) time.
     pub fn nth(&self, k: usize) -> Option<Key>
         ensures { result ≡ slice_get (keys_of any_step self.now.keyed_steps) k }
     {
@@ -139,49 +141,49 @@ impl Arena {
         Some(at)
     }
 
-    /// How many numbers were given out.
+    /// How many numbers were given out, also to steps that were removed since.
     pub fn issued(&self) -> usize
         ensures { result ≡ self.now.issued }
     {
         self.index.len()
     }
 
-    /// The step right after this one; none where no step has the key.
+    /// The step right after this one, if there is one; none where no step has the key.
     pub fn next(&self, key: Key) -> Option<Key>
         ensures { result ≡ next_in self.now.keyed_steps key }
     {
         self.nodes.get(key.place())?.next.key()
     }
 
-    /// The step right before this one; none where no step has the key.
+    /// The step right before this one, if there is one; none where no step has the key.
     pub fn prev(&self, key: Key) -> Option<Key>
         ensures { result ≡ prev_in self.now.keyed_steps key }
     {
         self.nodes.get(key.place())?.prev.key()
     }
 
-    /// The role's next step; none where no step has the key.
+    /// The next step of the same role, if there is one; none where no step has the key.
     pub fn next_of_role(&self, key: Key) -> Option<Key>
         ensures { result ≡ next_of_role_in self.now.keyed_steps key }
     {
         self.nodes.get(key.place())?.next_of_role.key()
     }
 
-    /// The role's step before; none where no step has the key.
+    /// The previous step of the same role, if there is one; none where no step has the key.
     pub fn prev_of_role(&self, key: Key) -> Option<Key>
         ensures { result ≡ prev_of_role_in self.now.keyed_steps key }
     {
         self.nodes.get(key.place())?.prev_of_role.key()
     }
 
-    /// The pair's next send; none where the key is no send's.
+    /// The next send of the same pair, if there is one; none where the key is no send's.
     pub fn next_send(&self, key: Key) -> Option<Key>
         ensures { result ≡ next_send_in self.now.keyed_steps key }
     {
         self.nodes.get(key.place())?.next_send.key()
     }
 
-    /// The pair's send before; none where the key is no send's.
+    /// The previous send of the same pair, if there is one; none where the key is no send's.
     pub fn prev_send(&self, key: Key) -> Option<Key>
         ensures { result ≡ prev_send_in self.now.keyed_steps key }
     {
@@ -204,7 +206,7 @@ impl Arena {
         source_at(&node.step.act, node.matched)
     }
 
-    /// The step's number; none where no step has the key. So it tells whether `get`, `before` and `marked` may be
+    /// The number of the step; none where no step has the key. So it tells whether `get`, `before` and `marked` may be
     /// called.
     pub fn id(&self, key: Key) -> Option<StepId>
         ensures { result ≡ id_in self.now.keyed_steps key }
@@ -212,7 +214,7 @@ impl Arena {
         Some(self.nodes.get(key.place())?.step.id)
     }
 
-    /// The step of the key.
+    /// The step of the key, which has to be there.
     pub fn get(&self, key: Key) -> &Step
         requires { IsSome (keyed_at key self.now.keyed_steps) }
         ensures { option_map (λ e. e.step) (keyed_at key self.now.keyed_steps) ≡ Some result.now }
@@ -220,7 +222,8 @@ impl Arena {
         &self.nodes[key.place()].step
     }
 
-    /// What was there before the step of the key.
+    /// What was there before the step of the key, which has to be there: where its role stood, and to what the name
+    /// that it binds was bound.
     pub fn before(&self, key: Key) -> Before
         requires { IsSome (keyed_at key self.now.keyed_steps) }
         ensures { option_map (λ e. e.before) (keyed_at key self.now.keyed_steps) ≡ Some result }
@@ -232,7 +235,7 @@ impl Arena {
         }
     }
 
-    /// Whether the step of the key is marked.
+    /// Whether the step of the key, which has to be there, is marked.
     pub fn marked(&self, key: Key) -> bool
         requires { IsSome (keyed_at key self.now.keyed_steps) }
         ensures { option_map (λ e. e.marked) (keyed_at key self.now.keyed_steps) ≡ Some result }
@@ -250,7 +253,7 @@ impl Arena {
         set_marked(&mut self.nodes, key, marked);
     }
 
-    /// The key of the step that has the number.
+    /// The key of the step that has the number, if it is still there.
     pub fn by_id(&self, id: StepId) -> Option<Key>
         ensures { result
             ≡ option_map (λ e. e.key) (find (λ e. e.step.id == id) self.now.keyed_steps) }
@@ -258,21 +261,21 @@ impl Arena {
         key_of(&self.nodes, self.index.as_slice(), id)
     }
 
-    /// The oldest step.
+    /// The key of the oldest step, if there is a step.
     pub fn first(&self) -> Option<Key>
         ensures { result ≡ first_key (keys_of any_step self.now.keyed_steps) }
     {
         self.ends.first.key()
     }
 
-    /// The newest step.
+    /// The key of the newest step, if there is a step.
     pub fn last(&self) -> Option<Key>
         ensures { result ≡ last_key None (keys_of any_step self.now.keyed_steps) }
     {
         self.ends.last.key()
     }
 
-    /// The newest step of the role.
+    /// The key of the role's newest step, if it has one.
     pub fn last_of(&self, role: Role) -> Option<Key>
         requires { role < 8 }
         ensures { result ≡ last_key None (keys_of (of_role role) self.now.keyed_steps) }
@@ -280,7 +283,7 @@ impl Arena {
         self.ends.last_of[role.index()].key()
     }
 
-    /// The newest send of the pair.
+    /// The key of the newest send from one role to the other, received or not, if there is one.
     pub fn last_send(&self, from: Role, to: Role) -> Option<Key>
         requires from { from < 8 }
         requires to { to < 8 }

@@ -20,7 +20,7 @@ pub(crate) struct Ends {
 }
 
 impl Ends {
-    /// Where there are no steps.
+    /// The ends of an arena that has no steps.
     pub(crate) fn new() -> Ends
         ensures first { result.first ≡ None }
         ensures last { result.last ≡ None }
@@ -38,7 +38,8 @@ impl Ends {
         }
     }
 
-    /// The node of a step that comes after all others.
+    /// Makes the node of a step that comes after all others, with links to the steps before it. `source` is the send
+    /// that a receipt takes. The nodes before it aren't changed yet.
     pub(crate) fn node_after(&self, step: Step, before: Before, source: Option<Key>) -> Node
         requires small { IsSmall step }
         requires role_count { length self.now.last_of ≡ 8 }
@@ -77,7 +78,7 @@ impl Ends {
         }
     }
 
-    /// Notes that the step stands after all others under that key.
+    /// Notes that the step now stands after all others, under that key.
     pub(crate) fn push(&mut self, step: &Step, key: Key)
         requires { IsSmall step.now }
         ensures first { self.new.first ≡ option_or self.old.first (Some key) }
@@ -97,7 +98,7 @@ impl Ends {
         }
     }
 
-    /// Notes that a node, the last of its role, goes.
+    /// Notes that a node goes. It is the last of its role, so a send is also the last of its pair.
     pub(crate) fn part(&mut self, node: &Node)
         requires { IsSmall node.now.step }
         ensures first { self.new.first ≡ (if is_none node.now.prev then node.now.next else self.old.first) }

@@ -8,5 +8,6 @@ use crate::arena::Arena;
 pub fn steps_are_sound(arena: &Arena)
     ensures { AreSound arena.now.keyed_steps }
 {
+    // its clause `sound` says so
     let _ = arena.len();
 }

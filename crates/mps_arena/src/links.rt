@@ -10,7 +10,7 @@ use crate::node::{Key, Link, Node};
 use mps_base::StepId;
 use slab::Slab;
 
-/// Writes what stands after that node, if there is one.
+/// Sets what stands right after the node at `at`. Where there is no such node, nothing changes.
 pub(crate) fn set_next(nodes: &mut Slab<Node>, at: Link, to: Link)
     ensures { Rewrites nodes.old nodes.new (λ k n.
         record n { next = if is_at at k then to else n.next }) }
@@ -22,7 +22,7 @@ pub(crate) fn set_next(nodes: &mut Slab<Node>, at: Link, to: Link)
     }
 }
 
-/// Writes what stands before that node, if there is one.
+/// Sets what stands right before the node at `at`. Where there is no such node, nothing changes.
 pub(crate) fn set_prev(nodes: &mut Slab<Node>, at: Link, to: Link)
     ensures { Rewrites nodes.old nodes.new (λ k n.
         record n { prev = if is_at at k then to else n.prev }) }
@@ -34,7 +34,7 @@ pub(crate) fn set_prev(nodes: &mut Slab<Node>, at: Link, to: Link)
     }
 }
 
-/// Writes the next step of the role after that node, if there is one.
+/// Sets the role's step after the node at `at`. Where there is no such node, nothing changes.
 pub(crate) fn set_next_of_role(nodes: &mut Slab<Node>, at: Link, to: Link)
     ensures { Rewrites nodes.old nodes.new (λ k n.
         record n { next_of_role = if is_at at k then to else n.next_of_role }) }
@@ -46,7 +46,7 @@ pub(crate) fn set_next_of_role(nodes: &mut Slab<Node>, at: Link, to: Link)
     }
 }
 
-/// Writes the next send of the pair after that node, if there is one.
+/// Sets the pair's send after the node at `at`. Where there is no such node, nothing changes.
 pub(crate) fn set_next_send(nodes: &mut Slab<Node>, at: Link, to: Link)
     ensures { Rewrites nodes.old nodes.new (λ k n.
         record n { next_send = if is_at at k then to else n.next_send }) }
@@ -58,7 +58,7 @@ pub(crate) fn set_next_send(nodes: &mut Slab<Node>, at: Link, to: Link)
     }
 }
 
-/// Writes what that node is matched with, if there is one.
+/// Sets what the node at `at` is matched with. Where there is no such node, nothing changes.
 pub(crate) fn set_matched(nodes: &mut Slab<Node>, at: Link, to: Link)
     ensures { Rewrites nodes.old nodes.new (λ k n.
         record n { matched = if is_at at k then to else n.matched }) }
@@ -70,7 +70,7 @@ pub(crate) fn set_matched(nodes: &mut Slab<Node>, at: Link, to: Link)
     }
 }
 
-/// Marks that node, if there is one, or removes its mark.
+/// Marks the node of the key, or removes its mark. Where there is no such node, nothing changes.
 pub(crate) fn set_marked(nodes: &mut Slab<Node>, key: Key, marked: bool)
     ensures { Rewrites nodes.old nodes.new (λ k n.
         record n { marked = if k == key then marked else n.marked }) }
@@ -80,7 +80,8 @@ pub(crate) fn set_marked(nodes: &mut Slab<Node>, key: Key, marked: bool)
     }
 }
 
-/// Adds a node under the next key, after the last of each of its chains and matched with its send.
+/// Adds a node under the next key, after the last of each of its chains and matched with its send. Memory for it was
+/// reserved, so it can't fail.
 #[inline(always)]
 pub(crate) fn join(nodes: &mut Slab<Node>, key: Key, node: Node)
     requires room { HasRoomFor nodes.old 1 }
@@ -102,7 +103,7 @@ pub(crate) fn join(nodes: &mut Slab<Node>, key: Key, node: Node)
     set_matched(nodes, matched, link);
 }
 
-/// Removes a node that is the last of its role, and joins its neighbours.
+/// Removes a node that is the last of its role, and links its neighbours. Its key is the next that is given.
 pub(crate) fn part(nodes: &mut Slab<Node>, key: Key) -> Node
     requires { ContainsKey nodes.old key }
     ensures node { get nodes.old key ≡ Some result }
@@ -123,7 +124,8 @@ pub(crate) fn part(nodes: &mut Slab<Node>, key: Key) -> Node
     node
 }
 
-/// The key to which the number leads, if the node there has the number.
+/// The key of the step that has the number, if it is still there. Numbers begin with 1. The index has the key that the
+/// number had; the node there may be gone, or be another step's by now.
 pub(crate) fn key_of(nodes: &Slab<Node>, index: &[Key], id: StepId) -> Option<Key>
     ensures { result ≡ indexed_key (get nodes.now) index.now id }
 {

@@ -24,7 +24,7 @@ impl Model for Key {
 }
 
 impl Key {
-    /// The key of a place, where there are few enough.
+    /// The key of a place. From 2^32 - 1 on there is none, which is reported as lack of memory.
     pub(crate) fn of(place: usize) -> Result<Key, AllocError>
         ensures key { IfOk result (λ key. key ≡ place) }
         ensures small { IfOk result (λ key. place + 1 < 2 ^ 32) }
@@ -44,14 +44,14 @@ impl Key {
         Key(place as u32)
     }
 
-    /// Whether it is that key.
+    /// Whether both are the same key.
     pub fn is(self, other: Key) -> bool
         ensures { result ≡ (self == other) }
     {
         self.0 == other.0
     }
 
-    /// The place itself.
+    /// The place of the key among the nodes.
     pub(crate) fn place(self) -> usize
         ensures place { result ≡ self }
         ensures small { result + 1 < 2 ^ 32 }
@@ -82,21 +82,21 @@ impl Model for Link {
 }
 
 impl Link {
-    /// No neighbour.
+    /// The link where there is no neighbour.
     pub fn none() -> Link
         ensures { result ≡ None }
     {
         Link(0)
     }
 
-    /// The link to that neighbour.
+    /// The link to the neighbour of that key.
     pub fn to(key: Key) -> Link
         ensures { result ≡ Some key }
     {
         Link(key.0 + 1)
     }
 
-    /// The link that an option is.
+    /// The link to the neighbour of that key, or that of no neighbour.
     pub fn of(key: Option<Key>) -> Link
         ensures { result ≡ key }
     {
@@ -106,7 +106,7 @@ impl Link {
         }
     }
 
-    /// The neighbour, if there is one.
+    /// The key of the neighbour, if there is one.
     pub fn key(self) -> Option<Key>
         ensures { result ≡ self }
     {
@@ -153,7 +153,8 @@ pub(crate) struct Node {
     pub(crate) matched: Link,
 }
 
-/// The receipt that a send is matched with.
+/// The receipt that an act is matched with, where it is a send and is received. `matched` is the link of the act's
+/// node.
 pub(crate) fn receipt_at(act: &Act, matched: Link) -> Option<Key>
     ensures { result ≡ matched_receipt (effect act.now) matched }
 {
@@ -163,7 +164,7 @@ pub(crate) fn receipt_at(act: &Act, matched: Link) -> Option<Key>
     }
 }
 
-/// The send that a receipt is matched with.
+/// The send that an act is matched with, where it is a receipt or a pick. `matched` is the link of the act's node.
 pub(crate) fn source_at(act: &Act, matched: Link) -> Option<Key>
     ensures { result ≡ matched_source (effect act.now) matched }
 {

@@ -33,7 +33,7 @@ impl Role {
         Role(index as usize)
     }
 
-    /// Its place in the list of roles.
+    /// The place of the role in the list of roles, from 0.
     pub fn index(self) -> usize
         ensures place { result ≡ self }
         ensures small { result < 2 ^ 8 }
@@ -41,7 +41,7 @@ impl Role {
         self.0
     }
 
-    /// Whether it is that role.
+    /// Whether both are the same role.
     pub fn is(self, other: Role) -> bool
         ensures { result ≡ (self == other) }
     {
@@ -71,7 +71,7 @@ impl StepId {
         StepId(number)
     }
 
-    /// The number itself.
+    /// The number as an integer.
     pub fn number(self) -> u64
         ensures number { result ≡ self }
         ensures small { result < 2 ^ 64 }
@@ -79,14 +79,14 @@ impl StepId {
         self.0
     }
 
-    /// Whether it is that step.
+    /// Whether both are the same number.
     pub fn is(self, other: StepId) -> bool
         ensures { result ≡ (self == other) }
     {
         self.0 == other.0
     }
 
-    /// Whether its number is the smaller one, so that it was accepted earlier.
+    /// Whether this number is smaller than the other: in one session, whether its step was accepted earlier.
     pub fn is_before(self, other: StepId) -> bool
         ensures { result ≡ nat_lt self other }
     {
@@ -102,7 +102,7 @@ pub enum Message {
 }
 
 impl Message {
-    /// The same message once more.
+    /// A copy of the message. Only that of a text allocates.
     pub fn copy(&self, alloc: Global) -> Result<Message, AllocError>
         ensures { IfOk result (λ message. message ≡ self.now) }
     {
@@ -123,7 +123,7 @@ pub enum Act {
 }
 
 impl Act {
-    /// The same act once more.
+    /// A copy of the act. Only that of an act with a text allocates.
     pub fn copy(&self, alloc: Global) -> Result<Act, AllocError>
         ensures { IfOk result (λ act. act ≡ self.now) }
     {
@@ -151,7 +151,7 @@ pub struct Step {
 }
 
 impl Step {
-    /// The same step once more.
+    /// A copy of the step, with its number. Only that of a step with a text allocates.
     pub fn copy(&self, alloc: Global) -> Result<Step, AllocError>
         ensures { IfOk result (λ step. step ≡ self.now) }
     {

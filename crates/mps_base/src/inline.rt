@@ -6,7 +6,7 @@ use std::marker::Model;
 /// How many bytes a word may have.
 pub(crate) const MAX_WORD: usize = 32;
 
-/// At most 32 bytes.
+/// A word of at most 32 bytes, kept without allocating.
 #[derive(Clone, Copy, Debug, PartialEq, Eq)]
 pub(crate) struct Inline {
     // as wide as a word: a byte would leave gaps in each value that holds a name, and each move would carry them
@@ -33,7 +33,7 @@ impl Model for Inline {
 }
 
 impl Inline {
-    /// These bytes.
+    /// The word of these bytes.
     pub(crate) fn of(bytes: &[u8]) -> Inline
         requires short { length bytes.now ≤ 32 }
         ensures { result ≡ bytes.now }
@@ -46,7 +46,7 @@ impl Inline {
         }
     }
 
-    /// No bytes.
+    /// The word that has no bytes yet.
     pub(crate) fn empty() -> Inline
         ensures { result ≡ [] }
     {
@@ -56,7 +56,7 @@ impl Inline {
         }
     }
 
-    /// Puts a byte after the others.
+    /// Puts a byte at the end of the word, which has space for it.
     pub(crate) fn push(&mut self, byte: u8)
         requires { length self.old < 32 }
         ensures { self.new ≡ self.old ++ byte ∷ [] }
@@ -65,7 +65,8 @@ impl Inline {
         self.len += 1;
     }
 
-    /// Whether it is these bytes. Most words are short, so each byte is compared where it stands.
+    /// Whether the word has just these bytes. They are compared one by one where they stand, since most words are
+    /// short.
     pub(crate) fn is_spelled(&self, bytes: &[u8]) -> bool
         ensures { IsTrue result ↔ (self.now ≡ bytes.now) }
     {
@@ -77,7 +78,7 @@ impl Inline {
                 .all(|pair| pair.0 == pair.1)
     }
 
-    /// Them, and bytes after them of which nothing is promised: all 32 are copied at once.
+    /// The bytes of the word, and bytes after them of which nothing is promised: all 32 are copied at once.
     #[inline(always)]
     pub(crate) fn padded(&self) -> [u8; MAX_WORD]
         ensures { take (length self.now) result ≡ self.now }
@@ -85,7 +86,7 @@ impl Inline {
         self.bytes
     }
 
-    /// Them, from the first to the last.
+    /// The bytes of the word, from the first to the last.
     pub(crate) fn as_bytes(&self) -> &[u8]
         ensures { result.now ≡ self.now }
     {

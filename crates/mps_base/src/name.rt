@@ -40,6 +40,7 @@ impl PartialEq for Name {
 
     ghost laws = { partial_equiv_from_equiv nat_list_eq_equiv };
 
+    // Whether both names are spelled alike.
     fn eq(&self, other: &Name) -> bool {
         self.is(other)
     }
@@ -49,12 +50,12 @@ impl Eq for Name {
     ghost laws = { nat_list_eq_equiv };
 }
 
-// As a text is hashed: its bytes, and then one that none has.
 impl Hash for Name {
     ghost hash_input = { fed.str };
 
     ghost respects_eq = { Prim.search (hashing, rules) };
 
+    // Hashes the name as a `str` is hashed: its bytes, and then 0xff, which stands in no name.
     fn hash<H: Hasher>(&self, state: &mut H) {
         state.write(self.as_bytes());
         state.write_u8(0xff);
@@ -62,7 +63,7 @@ impl Hash for Name {
 }
 
 impl Name {
-    /// The name of these bytes.
+    /// Makes a name of these bytes; `None` where they spell no name, as a reserved word does.
     pub fn read(bytes: &[u8]) -> Option<Name>
         ensures some { IsSome result ↔ IsName bytes.now }
         ensures name { IfSome result (λ name. name ≡ bytes.now) }
@@ -73,7 +74,7 @@ impl Name {
         Some(Name(name_bytes(bytes)?))
     }
 
-    /// Its bytes, from the first to the last.
+    /// The bytes of the name, from the first to the last.
     pub fn as_bytes(&self) -> &[u8]
         ensures bytes { result.now ≡ self.now }
         ensures name { IsName self.now }
@@ -81,8 +82,8 @@ impl Name {
         self.0.as_bytes()
     }
 
-    /// Its bytes, and bytes after them of which nothing is promised. All 32 are copied at once, which takes less than to
-    /// copy as many as it has.
+    /// The bytes of the name, and bytes after them of which nothing is promised. All 32 are copied at once, which takes
+    /// less than to copy as many as the name has.
     #[inline(always)]
     pub fn padded(&self) -> [u8; MAX_NAME]
         ensures bytes { take (length self.now) result ≡ self.now }
@@ -91,14 +92,14 @@ impl Name {
         self.0.padded()
     }
 
-    /// Whether it is spelled like that name.
+    /// Whether both names are spelled alike.
     pub fn is(&self, other: &Name) -> bool
         ensures { IsTrue result ↔ (self.now ≡ other.now) }
     {
         self.is_spelled(other.as_bytes())
     }
 
-    /// Whether it is spelled so.
+    /// Whether these bytes, which may be any, are those of the name.
     pub fn is_spelled(&self, bytes: &[u8]) -> bool
         ensures { IsTrue result ↔ (self.now ≡ bytes.now) }
     {
@@ -106,7 +107,7 @@ impl Name {
     }
 }
 
-// Whether a small letter comes first, of not too many bytes.
+// Whether the bytes are 1 to 32, of which the first is a small letter.
 fn begins_as_name(bytes: &[u8]) -> bool
     ensures { IsTrue result ↔ ((0 < length bytes.now) × (length bytes.now ≤ 32)
         × IsTrue (is_lower (slice_index bytes.now 0))) }
@@ -117,7 +118,7 @@ fn begins_as_name(bytes: &[u8]) -> bool
     }
 }
 
-// The bytes, if a name may contain each of them: they are looked at and kept in one go.
+// The bytes as a word, if each is one that a name may contain. They are looked at and kept in one pass.
 fn name_bytes(bytes: &[u8]) -> Option<Inline>
     requires { length bytes.now ≤ 32 }
     ensures some { IsSome result ↔ AllByRecursion (λ c. IsTrue (is_name_byte c)) bytes.now }
@@ -140,7 +141,7 @@ fn is_free(bytes: &[u8]) -> bool
     bytes.len() < 3 || bytes.len() > 5 || is_no_word(bytes)
 }
 
-// Whether the bytes are none of the reserved words.
+// Whether the bytes are none of the reserved words. It isn't inlined, since most names are free by their length.
 #[inline(never)]
 fn is_no_word(bytes: &[u8]) -> bool
     ensures { IsTrue result ↔ IsNoneOf reserved_words bytes.now }
@@ -155,14 +156,14 @@ fn is_no_structure(bytes: &[u8]) -> bool
     bytes != b"roles".as_slice() && bytes != b"rec".as_slice() && bytes != b"end".as_slice()
 }
 
-// Whether the bytes are no sort.
+// Whether the bytes are no word for a sort.
 fn is_no_sort(bytes: &[u8]) -> bool
     ensures { IsTrue result ↔ IsNoneOf sort_words bytes.now }
 {
     bytes != b"int".as_slice() && bytes != b"bool".as_slice() && bytes != b"text".as_slice()
 }
 
-// Whether the bytes are no truth value.
+// Whether the bytes are no word for a truth value.
 fn is_no_bool(bytes: &[u8]) -> bool
     ensures { IsTrue result ↔ IsNoneOf bool_words bytes.now }
 {

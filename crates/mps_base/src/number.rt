@@ -7,33 +7,24 @@ ghost use Rattle.mps_base.specs.Numbers.{IsNumberText, IsIntText};
 use itoa::Buffer;
 use std::alloc::AllocError;
 
-/// Reads a number below 2^64: decimal digits, with no `0` in front of others.
+/// Reads a number below 2^64: decimal digits, with no `0` in front of others. `None` for other bytes, and for a larger
+/// number.
 pub fn read_number(bytes: &[u8]) -> Option<u64>
     ensures read { IfSome result (IsNumberText bytes.now) }
     ensures none { IfNone result ((n : ℕ) → n < 2 ^ 64 → IsNumberText bytes.now n → ⊥) }
 {
     match bytes {
         [] | [b'0', _, ..] => None,
-        digits => read_digits(digits),
+        digits if digits.len() <= FEW => read_few(digits),
+        digits => read_many(digits),
     }
 }
 
 // How many digits stand for a number below 2^64, whatever they are.
 const FEW: usize = 19;
 
-// The number that these digits stand for, with any `0` in front.
-fn read_digits(digits: &[u8]) -> Option<u64>
-    ensures read { IfSome result (λ n. AllDigits 10 digits.now × (digits_value 10 digits.now ≡ n)) }
-    ensures none { IfNone result (AllDigits 10 digits.now → 2 ^ 64 ≤ digits_value 10 digits.now) }
-{
-    if digits.len() <= FEW {
-        read_few(digits)
-    } else {
-        read_many(digits)
-    }
-}
-
-// The same of so few digits that no sum needs to be looked at.
+// Reads at most 19 digits as a number. Their sum stays below 2^64, so it isn't checked. `None` where a byte is no
+// digit.
 #[inline(always)]
 fn read_few(digits: &[u8]) -> Option<u64>
     requires { length digits.now ≤ 19 }
@@ -50,7 +41,7 @@ fn read_few(digits: &[u8]) -> Option<u64>
     Some(n)
 }
 
-// The same of any digits.
+// Reads any digits as a number, and checks each sum. `None` where a byte is no digit, or the number is 2^64 or more.
 fn read_many(digits: &[u8]) -> Option<u64>
     ensures read { IfSome result (λ n. AllDigits 10 digits.now × (digits_value 10 digits.now ≡ n)) }
     ensures none { IfNone result (AllDigits 10 digits.now → 2 ^ 64 ≤ digits_value 10 digits.now) }
@@ -65,7 +56,7 @@ fn read_many(digits: &[u8]) -> Option<u64>
     Some(n)
 }
 
-/// Writes a number below 2^64 at the end.
+/// Writes a number in decimal digits at the end of `out`, with no `0` in front.
 #[tactic(auto, using(crate::proofs::Numbers::decimal_is_number))]
 #[inline(always)]
 pub fn write_number(n: u64, out: &mut Vec<u8>) -> Result<(), AllocError>
@@ -76,7 +67,8 @@ pub fn write_number(n: u64, out: &mut Vec<u8>) -> Result<(), AllocError>
     out.extend_from_slice(digits.format(n).as_bytes())
 }
 
-// Reads an integer: `0`, or digits without a `0` in front, after a `-` if it is below 0.
+// Reads an integer of 64 bits: `0`, or digits without a `0` in front, after a `-` if it is below 0. `None` for other
+// bytes, for `-0` and out of range.
 pub(crate) fn read_int(bytes: &[u8]) -> Option<i64>
     ensures read { IfSome result (IsIntText bytes.now) }
     ensures none { IfNone result ((z : ℤ) → IsIntText bytes.now z → ⊥) }
@@ -87,13 +79,14 @@ pub(crate) fn read_int(bytes: &[u8]) -> Option<i64>
             if size == 0 {
                 return None;
             }
+            // down from 0, since -(2^63) is in range and 2^63 isn't
             0i64.checked_sub_unsigned(size)
         }
         _ => i64::try_from(read_number(bytes)?).ok(),
     }
 }
 
-// Writes an integer at the end.
+// Writes an integer at the end of `out`: decimal digits, after a `-` if it is below 0.
 pub(crate) fn write_int(n: i64, out: &mut Vec<u8>) -> Result<(), AllocError>
     ensures ok { OnOk result (AppendsSuch (λ text. IsIntText text n) out.old.items out.new.items) }
     ensures err { OnErr result (out.new.items ≡ out.old.items) }

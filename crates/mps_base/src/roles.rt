@@ -45,12 +45,12 @@ impl Model for Roles {
 }
 
 impl Roles {
-    /// The roles of these names.
+    /// Makes the roles of a session of these names, which have to be 2 to 8 and distinct. The count is looked at first,
+    /// and memory is asked for last.
     pub fn of(alloc: Global, names: &[Name]) -> Result<Roles, RoleFault>
         ensures roles { IfOk result (λ roles. roles ≡ names.now) }
         ensures accepted { OnOk result (AreRoles names.now) }
 
-        // The count is looked at first.
         ensures count { IsErrOf result RoleFault.RoleCount ↔ ¬ HasRoleCount names.now }
         ensures double { IsErrOf result RoleFault.DoubleRole
             ↔ (HasRoleCount names.now × ¬ AreDistinct names.now) }
@@ -66,7 +66,7 @@ impl Roles {
         Ok(Roles { names })
     }
 
-    /// How many roles there are.
+    /// How many roles there are. The clause `distinct` is for callers' proofs.
     pub fn count(&self) -> usize
         ensures count { result ≡ length self.now }
         ensures some { 2 ≤ result }
@@ -76,7 +76,7 @@ impl Roles {
         self.names.len()
     }
 
-    /// The role of that name.
+    /// The role of that name, if there is one.
     pub fn find(&self, name: &Name) -> Option<Role>
         ensures found { IfSome result (λ role. slice_get self.now role ≡ Some name.now) }
         ensures none { IfNone result (All (λ other. other ≢ name.now) self.now) }
@@ -85,7 +85,8 @@ impl Roles {
         self.find_spelled(name.as_bytes())
     }
 
-    /// The role whose name is spelled so. The bytes may be any, and are compared as they come.
+    /// The role whose name these bytes spell, if there is one. The bytes may be any, and are compared as they come: no
+    /// `Name` is made of them.
     #[tactic(auto, using(crate::proofs::RoleLists::one_place, crate::proofs::RoleLists::no_place))]
     pub fn find_spelled(&self, bytes: &[u8]) -> Option<Role>
         ensures name { IsSome result → IsName bytes.now }
@@ -94,12 +95,13 @@ impl Roles {
         ensures only { (role : ℕ) → slice_get self.now role ≡ Some bytes.now → result ≡ Some role }
     {
         let place = find_name(&self.names, bytes)?;
-        // reads the name, so that its bytes are known to be a name's
+        // looked at for the proof alone, which then knows that the bytes are a name's
         let _name = self.names[place].as_bytes();
+        // there are at most 8, so the place fits
         Some(Role::new(place as u8))
     }
 
-    /// The name of a role.
+    /// The name of a role, which has to be one of these.
     pub fn name(&self, role: Role) -> Name
         requires { role < length self.now }
         ensures { slice_get self.now role ≡ Some result }
@@ -107,7 +109,7 @@ impl Roles {
         self.names[role.index()]
     }
 
-    /// The same roles once more.
+    /// A copy of the roles, in memory of its own.
     pub fn copy(&self, alloc: Global) -> Result<Roles, AllocError>
         ensures { IfOk result (λ roles. roles ≡ self.now) }
     {
@@ -117,7 +119,7 @@ impl Roles {
     }
 }
 
-// Where the name that is spelled so stands, if it does.
+// The place of the first name that these bytes spell, if there is one.
 fn find_name(names: &[Name], bytes: &[u8]) -> Option<usize>
     ensures found { IfSome result (λ place. slice_get names.now place ≡ Some bytes.now) }
     ensures none { IfNone result (All (λ other. other ≢ bytes.now) names.now) }
@@ -125,7 +127,7 @@ fn find_name(names: &[Name], bytes: &[u8]) -> Option<usize>
     names.iter().position(|name| name.is_spelled(bytes))
 }
 
-// Whether no name stands twice.
+// Whether no name stands twice: each is compared with those after it. Calls are nested, at most 9 deep for 8 names.
 fn are_distinct(names: &[Name]) -> bool
     ensures { IsTrue result ↔ AreDistinct names.now }
 {

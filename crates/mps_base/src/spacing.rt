@@ -4,7 +4,8 @@ ghost use Rattle.mps_base.specs.Spaced.{spaced, with_token, with_tokens};
 
 use std::alloc::AllocError;
 
-/// Writes a token at the end, with a space before it where something stands there already.
+/// Writes a token at the end of `out`, with a space before it where something stands there already. Where memory runs
+/// out, neither is written.
 #[tactic(auto, using(crate::proofs::Spaced::first_token, crate::proofs::Spaced::next_token))]
 pub fn push_token(out: &mut Vec<u8>, token: &[u8]) -> Result<(), AllocError>
     ensures ok { OnOk result (out.new.items ≡ with_token out.old.items token.now) }
@@ -13,12 +14,13 @@ pub fn push_token(out: &mut Vec<u8>, token: &[u8]) -> Result<(), AllocError>
     if out.is_empty() {
         return out.extend_from_slice(token);
     }
+    // for both, so that no space is written without its token
     out.reserve(token.len() + 1)?;
     out.push(b' ')?;
     out.extend_from_slice(token)
 }
 
-/// Tokens written one after the other stand with one space between two.
+/// What `push_token` writes, token after token, is the tokens with one space between two, where the first isn't empty.
 pub fn written_spaced()
     ensures parts { (out : List ℕ) (front back : List (List ℕ))
         → with_tokens out (front ++ back) ≡ with_tokens (with_tokens out front) back }

@@ -24,7 +24,8 @@ pub enum ValueFault {
 }
 
 impl Value {
-    /// Reads a value that takes all of the bytes.
+    /// Reads a value, which takes all of the bytes: an integer, `true` or `false`, or a text between quotes. Bytes that
+    /// spell no value are `Bad`.
     #[tactic(auto, using(crate::proofs::Values::no_value, crate::proofs::Values::quoted_same))]
     pub fn read(alloc: Global, bytes: &[u8]) -> Result<Value, ValueFault>
         ensures read { IfOk result (SpellsValue bytes.now) }
@@ -46,7 +47,7 @@ impl Value {
         }
     }
 
-    /// Writes the value at the end.
+    /// Writes the value at the end of `out` as it is spelled: an integer, `true` or `false`, or a text between quotes.
     pub fn write(&self, out: &mut Vec<u8>) -> Result<(), AllocError>
         ensures ok { OnOk result
             (AppendsSuch (λ text. SpellsValue text self.now) out.old.items out.new.items) }
@@ -69,14 +70,14 @@ pub fn one_spelling()
     ensures no_name { (a : List ℕ) (v : Value) → SpellsValue a v → IsName a → ⊥ }
 {}
 
-/// A spelling stands on one line, and has a byte at least.
+/// The spelling of a value stands on one line, and has at least one byte.
 #[tactic(auto, using(crate::proofs::Values::shown))]
 pub fn one_line()
     ensures some { (a : List ℕ) (v : Value) → SpellsValue a v → 0 < length a }
     ensures shown { (a : List ℕ) (v : Value) → SpellsValue a v → AllByRecursion IsShown a }
 {}
 
-// The truth value that the bytes are the word for.
+// The truth value whose word the bytes are, if they are one.
 fn read_bool(bytes: &[u8]) -> Option<bool>
     ensures read { IfSome result (λ b. bytes.now ≡ bool_word b) }
     ensures none { IfNone result ((b : Bool) → bytes.now ≢ bool_word b) }
@@ -88,7 +89,7 @@ fn read_bool(bytes: &[u8]) -> Option<bool>
     }
 }
 
-// What stands between the quotes, where the bytes begin and end with one.
+// The bytes between the first and the last, where these two are quotes. What stands there isn't looked at.
 fn unquoted(bytes: &[u8]) -> Option<&[u8]>
     ensures found { IfSome result (λ inside. bytes.now ≡ quoted inside.now) }
     ensures none { IfNone result ((inside : List ℕ) → bytes.now ≢ quoted inside) }
@@ -99,7 +100,8 @@ fn unquoted(bytes: &[u8]) -> Option<&[u8]>
     }
 }
 
-// The text that these bytes are, found between quotes.
+// Makes a text value of a copy of these bytes, which stood between quotes. They are looked at before memory is asked
+// for, so bytes that are no text are `Bad` whatever memory there is.
 fn read_text(alloc: Global, inside: &[u8]) -> Result<Value, ValueFault>
     ensures read { IfOk result (λ v. (v ≡ values.Text inside.now) × IsText inside.now) }
     ensures bad { IsErrOf result ValueFault.Bad → ¬ IsText inside.now }
@@ -112,12 +114,14 @@ fn read_text(alloc: Global, inside: &[u8]) -> Result<Value, ValueFault>
     Ok(Value::Text(text))
 }
 
-// Writes the bytes between quotes, or nothing.
+// Writes a text's bytes between quotes at the end of `out`, or nothing where memory runs out. None of them needs an
+// escape.
 fn write_quoted(bytes: &[u8], out: &mut Vec<u8>) -> Result<(), AllocError>
     requires { IsText bytes.now }
     ensures ok { OnOk result (out.new.items ≡ out.old.items ++ quoted bytes.now) }
     ensures err { OnErr result (out.new.items ≡ out.old.items) }
 {
+    // for both quotes too, so that nothing below fails
     out.reserve(bytes.len() + 2)?;
     out.push(b'"')?;
     out.extend_from_slice(bytes)?;

@@ -18,7 +18,7 @@ pub enum Sort {
 }
 
 impl Sort {
-    /// The word for it in a protocol.
+    /// The word for the sort in a protocol's text.
     pub fn word(&self) -> &'static [u8]
         ensures { result.now ≡ sort_word self.now }
     {
@@ -29,7 +29,7 @@ impl Sort {
         }
     }
 
-    /// Whether it is that sort.
+    /// Whether both are the same sort.
     pub fn is(self, other: Sort) -> bool
         ensures { result ≡ same_sort self other }
     {
@@ -40,7 +40,7 @@ impl Sort {
     }
 }
 
-/// Two sorts are the same where the test says so, and a value is of its own sort alone.
+/// The definition `same_sort` says of two sorts whether they are equal, and a value fits its own sort alone.
 pub fn a_value_has_one_sort()
     ensures same { (s t : Sort) → (same_sort s t ≡ true) ↔ (s ≡ t) }
     ensures own { (v : Value) (s : Sort) → (fits v s ≡ true) ↔ (sort_of v ≡ s) }
@@ -67,7 +67,8 @@ impl Model for Text {
 }
 
 impl Text {
-    /// The text of these bytes, if they may stand in one.
+    /// Makes a text of these bytes, which are kept and not copied. `None` where they may not stand in a text; they are
+    /// dropped then.
     pub fn new(bytes: Vec<u8>) -> Option<Text>
         ensures some { IsSome result ↔ IsText bytes.items }
         ensures text { IfSome result (λ text. text ≡ bytes.items) }
@@ -90,7 +91,7 @@ impl Text {
         })
     }
 
-    /// Its bytes, from the first to the last, without quotes.
+    /// The bytes of the text, from the first to the last, without quotes.
     pub fn as_bytes(&self) -> &[u8]
         ensures bytes { result.now ≡ self.now }
         ensures text { IsText self.now }
@@ -98,7 +99,7 @@ impl Text {
         &self.bytes
     }
 
-    /// The same text once more.
+    /// A copy of the text, in memory of its own.
     pub fn copy(&self, alloc: Global) -> Result<Text, AllocError>
         ensures { IfOk result (λ text. text ≡ self.now) }
     {
@@ -106,15 +107,15 @@ impl Text {
     }
 }
 
-// Whether the bytes may stand in a text.
+// Whether the bytes may be a text: at most 256, each from the space to `~` and neither `"` nor `\`.
 pub(crate) fn is_text(bytes: &[u8]) -> bool
     ensures { IsTrue result ↔ IsText bytes.now }
 {
     bytes.len() <= MAX_TEXT && are_plain(bytes)
 }
 
-// Whether each byte is shown as itself between quotes. It doesn't end at the first that isn't, so the compiler looks at
-// sixteen at a time.
+// Whether each byte is shown as itself between quotes. The loop doesn't end at the first that isn't, so the compiler
+// looks at sixteen at a time.
 fn are_plain(bytes: &[u8]) -> bool
     ensures { IsTrue result ↔ AllByRecursion IsPlainByte bytes.now }
 {
@@ -141,7 +142,7 @@ pub enum Value {
 }
 
 impl Value {
-    /// Its sort.
+    /// The sort of the value.
     pub fn sort(&self) -> Sort
         ensures { result ≡ sort_of self.now }
     {
@@ -152,14 +153,14 @@ impl Value {
         }
     }
 
-    /// Whether it is of that sort.
+    /// Whether the value is of that sort.
     pub fn fits(&self, sort: Sort) -> bool
         ensures { result ≡ fits self.now sort }
     {
         self.sort().is(sort)
     }
 
-    /// The same value once more.
+    /// A copy of the value. Only that of a text allocates.
     pub fn copy(&self, alloc: Global) -> Result<Value, AllocError>
         ensures { IfOk result (λ value. value ≡ self.now) }
     {

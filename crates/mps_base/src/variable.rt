@@ -24,7 +24,7 @@ impl Model for VarName {
 }
 
 impl VarName {
-    /// The variable of these bytes.
+    /// Makes a variable's name of these bytes; `None` where they spell no variable.
     pub fn read(bytes: &[u8]) -> Option<VarName>
         ensures some { IsSome result ↔ IsVariable bytes.now }
         ensures name { IfSome result (λ name. name ≡ bytes.now) }
@@ -36,7 +36,7 @@ impl VarName {
         }
     }
 
-    /// Its bytes, from the first to the last.
+    /// The bytes of the name, from the first to the last.
     pub fn as_bytes(&self) -> &[u8]
         ensures bytes { result.now ≡ self.now }
         ensures name { IsVariable self.now }
@@ -44,7 +44,7 @@ impl VarName {
         self.0.as_bytes()
     }
 
-    /// Whether it is spelled like that variable.
+    /// Whether both variables are spelled alike.
     pub fn is(&self, other: &VarName) -> bool
         ensures { IsTrue result ↔ (self.now ≡ other.now) }
     {
@@ -52,7 +52,8 @@ impl VarName {
     }
 }
 
-// Whether the bytes are a recursion variable.
+// Whether the bytes spell a variable: 1 to 32 of them, a capital letter first, and each one that a variable may
+// contain.
 fn is_variable(bytes: &[u8]) -> bool
     ensures { IsTrue result ↔ IsVariable bytes.now }
 {
@@ -64,7 +65,7 @@ fn is_variable(bytes: &[u8]) -> bool
     }
 }
 
-// Whether a variable may contain each of the bytes.
+// Whether each of the bytes may stand in a variable: a capital letter, a digit or `_`.
 fn has_variable_bytes(bytes: &[u8]) -> bool
     ensures { IsTrue result ↔ AllByRecursion (λ c. IsTrue (is_variable_byte c)) bytes.now }
 {

@@ -51,6 +51,7 @@ pub enum Refusal {
 impl From<AllocError> for Refusal {
     ghost from_gives = { λ _ e. e ≡ OutOfMemory };
 
+    // A failed allocation is `Memory`.
     fn from(_e: AllocError) -> Refusal {
         Refusal::Memory
     }
@@ -59,6 +60,7 @@ impl From<AllocError> for Refusal {
 impl<T: Drop> From<AllocFailed<T>> for Refusal {
     ghost from_gives = { λ _ e. e ≡ OutOfMemory };
 
+    // A failed allocation is `Memory`; what it gives back is dropped.
     fn from(_e: AllocFailed<T>) -> Refusal {
         Refusal::Memory
     }
@@ -72,7 +74,7 @@ pub struct Done {
 }
 
 impl Done {
-    /// The same answer once more.
+    /// A copy of the answer. Only that of a text allocates.
     pub fn copy(&self, alloc: Global) -> Result<Done, AllocError>
         ensures { IfOk result (λ done. done ≡ self.now) }
     {
@@ -100,7 +102,7 @@ pub enum Answer {
 }
 
 impl Answer {
-    /// The same answer once more.
+    /// A copy of the answer. A text, a shown session and a list of numbers may allocate.
     pub fn copy(&self, alloc: Global) -> Result<Answer, AllocError>
         ensures { IfOk result (λ answer. answer ≡ self.now) }
     {

@@ -24,7 +24,8 @@ impl Model for ShownText {
 }
 
 impl ShownText {
-    /// The text of these bytes. It does not allocate.
+    /// Makes a shown text of these bytes, which are kept and not copied. They have to begin with a brace and be
+    /// printable.
     pub fn of(bytes: Vec<u8>) -> ShownText
         requires { IsShownText bytes.items }
         ensures { result ≡ bytes.items }
@@ -32,7 +33,7 @@ impl ShownText {
         ShownText { bytes }
     }
 
-    /// The bytes of the text.
+    /// The bytes of the text, from the first to the last.
     pub fn as_bytes(&self) -> &[u8]
         ensures bytes { result.now ≡ self.now }
         ensures shown { IsShownText self.now }
@@ -40,7 +41,7 @@ impl ShownText {
         self.bytes.as_slice()
     }
 
-    /// The same text once more.
+    /// A copy of the text, in memory of its own.
     pub fn copy(&self, alloc: Global) -> Result<ShownText, AllocError>
         ensures { IfOk result (λ text. text ≡ self.now) }
     {

@@ -30,7 +30,7 @@ impl Model for StepIds {
 }
 
 impl StepIds {
-    /// The list of these numbers. It does not allocate.
+    /// The list of these numbers, which are kept and not copied.
     pub fn of(ids: Vec<StepId>) -> StepIds
         ensures { result ≡ ids.items }
     {
@@ -70,7 +70,7 @@ impl StepIds {
         }
     }
 
-    /// The same list once more.
+    /// A copy of the list. That of a list made by `one` does not allocate.
     pub fn copy(&self, alloc: Global) -> Result<StepIds, AllocError>
         ensures { IfOk result (λ ids. ids ≡ self.now) }
     {

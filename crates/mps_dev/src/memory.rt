@@ -11,8 +11,8 @@ use super::{Failed, Sink, Source};
 use std::alloc::{AllocError, Global};
 use std::marker::Model;
 
-/// A source over memory: it gives pieces in order, and fails from a given call on. A read gives
-/// bytes of one piece, at most what is left of it, and passes over empty pieces.
+/// A source over memory: it gives pieces in order, and fails from a given call on. A read gives bytes of one piece, at
+/// most what is left of it, and passes over empty pieces.
 #[derive(Debug, Drop)]
 pub struct Pieces {
     pieces: Vec<Vec<u8>>,
@@ -40,8 +40,8 @@ impl Model for Pieces {
 }
 
 impl Pieces {
-    /// A source that gives `pieces`, and fails from the call `fails_from` on, counted from 1. It
-    /// does not allocate.
+    /// A source that gives `pieces`. Its calls fail from the call `fails_from` on, counted from 1, or never where that
+    /// is `None`. It does not allocate.
     pub fn new(pieces: Vec<Vec<u8>>, fails_from: Option<u64>) -> Self
         ensures script { result ≡ record {
           pieces = non_empty (map vec_items pieces.items);
@@ -75,6 +75,8 @@ impl Source for Pieces {
 
     ghost fewer_failed = { λ s. Prim.omega arith };
 
+    // Reads what is left of the next piece that has bytes, as far as there is room. A call that fails takes no byte.
+    // Each call is counted once: as a failure, as an end, or as answered.
     fn read(&mut self, buf: &mut [u8]) -> Result<usize, Failed>
         requires { calls_of self.old < 2 ^ 63 }
         ensures within { ReadsAtMost result buf.new }
@@ -118,8 +120,8 @@ impl Source for Pieces {
     }
 }
 
-// Where the first byte is left from the byte `given` of the piece `next` on: its piece, and its
-// place there.
+// Where the next byte to give stands, from the byte `given` of the piece `next` on: its piece, and its place there.
+// Where none is left, the piece is one past the last.
 fn first_left(pieces: &[Vec<u8>], mut next: usize, mut given: usize) -> (usize, usize)
     ensures same { left_from result.0 result.1 (map vec_items pieces.now)
         ≡ left_from next given (map vec_items pieces.now) }
@@ -133,7 +135,7 @@ fn first_left(pieces: &[Vec<u8>], mut next: usize, mut given: usize) -> (usize, 
     (next, given)
 }
 
-// Copies as many bytes as both have, and returns how many.
+// Copies the front of `from` over the front of `to`, as many bytes as both have, and says how many.
 fn copy_front(from: &[u8], to: &mut [u8]) -> usize
     ensures count { result ≡ min (length from.now) (length to.old) }
     ensures copied { to.new ≡ take result from.now ++ drop result to.old }
@@ -167,8 +169,7 @@ impl Model for Short {
 }
 
 impl Short {
-    /// A sink that has taken nothing, and takes `room` bytes. Their memory is taken here, and none
-    /// later.
+    /// A sink that takes `room` bytes in all, and has taken none. Memory for them is allocated here, and none later.
     pub fn new(alloc: Global, room: usize) -> Result<Self, AllocError>
         ensures { IfOk result (λ s. s ≡ record { bytes = []; room = room; failed_calls = 0 }) }
     {
@@ -179,7 +180,7 @@ impl Short {
         })
     }
 
-    /// The bytes that it took, in order.
+    /// The bytes that the sink took so far, in order.
     pub fn bytes(&self) -> &[u8]
         ensures { result.now ≡ self.now.bytes }
     {
@@ -192,7 +193,7 @@ impl Sink for Short {
 
     ghost failed_calls = { λ s. s.failed_calls };
 
-    // It fails only where some bytes come and no room is left, and takes all that fits else.
+    // Takes as many of the bytes as there is room for. It fails only where some bytes come and no room is left.
     fn write(&mut self, bytes: &[u8]) -> Result<usize, Failed>
         requires { self.old.failed_calls < 2 ^ 63 }
         ensures within { WritesAtMost result bytes.now }
@@ -210,6 +211,7 @@ impl Sink for Short {
             return Err(Failed);
         }
         let n = self.room.min(bytes.len());
+        // never out of memory: `new` allocated for all bytes that it takes
         let Ok(()) = self.bytes.extend_from_slice(&bytes[..n]) else {
             unreachable!()
         };
@@ -227,6 +229,7 @@ impl Sink for Discard {
 
     ghost failed_calls = { λ _. 0 };
 
+    // Takes all of the bytes, and keeps none.
     fn write(&mut self, bytes: &[u8]) -> Result<usize, Failed>
         ensures within { WritesAtMost result bytes.now }
         ensures progress { TakesSome result bytes.now }

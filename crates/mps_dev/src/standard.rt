@@ -17,6 +17,7 @@ pub struct OverRead<R> {
 impl<R> OverRead<R> {
     ghost use Rattle.mps_dev.specs.Standard.{reader_of, calls_of, failed_reads_of, ends_of};
 
+    /// A source over this reader, which starts with each count at 0.
     pub fn new(inner: R) -> Self
         ensures reader { reader_of result ≡ inner }
         ensures calls { calls_of result ≡ 0 }
@@ -31,7 +32,7 @@ impl<R> OverRead<R> {
         }
     }
 
-    /// The reader, where the last read left it.
+    /// Takes the reader out again, as the last read left it. The counts are dropped.
     pub fn into_inner(self) -> R
         ensures { result ≡ reader_of self }
     {
@@ -53,6 +54,7 @@ impl<R: Read> Source for OverRead<R> {
 
     ghost fewer_failed = { λ s. s.fewer_failed };
 
+    // One read of the reader, also after an end or a failure. To read nothing into an empty `buf` is no end.
     fn read(&mut self, buf: &mut [u8]) -> Result<usize, Failed> {
         self.calls += 1;
         match self.inner.read(buf) {
@@ -70,10 +72,9 @@ impl<R: Read> Source for OverRead<R> {
     }
 }
 
-/// A sink over one of std's writers: a call of `write` is one write to it. Each `io::Error` is
-/// `Failed`, one of kind `Interrupted` too, and so is an `Ok(0)` for some bytes. Nothing is
-/// flushed: a writer that keeps bytes back, as a `BufWriter` does, is flushed by who takes it out
-/// again.
+/// A sink over one of std's writers: a call of `write` is one write to it. Each `io::Error` is `Failed`, one of kind
+/// `Interrupted` too, and so is an `Ok(0)` for some bytes. Nothing is flushed: a writer that keeps bytes back, as a
+/// `BufWriter` does, is flushed by whoever takes it out again.
 #[derive(Debug, Drop)]
 pub struct OverWrite<W> {
     inner: W,
@@ -83,6 +84,7 @@ pub struct OverWrite<W> {
 impl<W> OverWrite<W> {
     ghost use Rattle.mps_dev.specs.Standard.{writer_of, failed_writes_of};
 
+    /// A sink over this writer, which starts with no failure counted.
     pub fn new(inner: W) -> Self
         ensures writer { writer_of result ≡ inner }
         ensures failures { failed_writes_of result ≡ 0 }
@@ -93,7 +95,7 @@ impl<W> OverWrite<W> {
         }
     }
 
-    /// The writer, where the last write left it.
+    /// Takes the writer out again, as the last write left it, unflushed. The count is dropped.
     pub fn into_inner(self) -> W
         ensures { result ≡ writer_of self }
     {
@@ -109,6 +111,8 @@ impl<W: Write> Sink for OverWrite<W> {
 
     ghost failed_calls = { failed_writes_of };
 
+    // One write to the writer, also after a failure. An `Ok(0)` for some bytes is a failure, so loops over writes make
+    // progress.
     fn write(&mut self, bytes: &[u8]) -> Result<usize, Failed> {
         match self.inner.write(bytes) {
             Ok(n) if n > 0 || bytes.is_empty() => Ok(n),

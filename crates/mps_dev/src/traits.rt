@@ -10,7 +10,7 @@ use thiserror::Error;
 #[error("the device failed")]
 pub struct Failed;
 
-/// What bytes are read from, one call at a time. It does not allocate.
+/// What bytes are read from, one call at a time. The devices here allocate nothing of their own in a read.
 pub trait Source {
     // The bytes that reads will give from here on, where they are known.
     ghost remaining: { Self → Option (List ℕ) };
@@ -24,8 +24,8 @@ pub trait Source {
     // How many of them ended: they answered that nothing is left, though there was room for it.
     ghost ends: { Self → ℕ };
 
-    /// Reads some bytes into the front of `buf`, and says how many. `Ok(0)` with room in `buf` is
-    /// the end.
+    /// Reads some bytes into the front of `buf`, and says how many. `Ok(0)` with room in `buf` is the end. A failed
+    /// read loses no byte, as far as they are known; nothing is promised of what `buf` has then.
     fn read(&mut self, buf: &mut [u8]) -> Result<usize, Failed>
         requires { calls self.old < 2 ^ 63 }
         ensures within { ReadsAtMost result buf.new }
@@ -38,7 +38,7 @@ pub trait Source {
     ghost fewer_failed: { (s : Self) → failed_calls s + ends s ≤ calls s };
 }
 
-/// What bytes are written to, one call at a time. It does not allocate.
+/// What bytes are written to, one call at a time. The devices here allocate nothing of their own in a write.
 pub trait Sink {
     // The bytes taken so far, where they are known.
     ghost taken: { Self → Option (List ℕ) };
@@ -46,8 +46,8 @@ pub trait Sink {
     // How many calls of `write` failed.
     ghost failed_calls: { Self → ℕ };
 
-    /// Takes some bytes from the front of `bytes`, and says how many. A device that takes none of
-    /// some bytes failed.
+    /// Takes some bytes from the front of `bytes`, and says how many; to take none of some is a failure. A failed write
+    /// takes none, as far as what was taken is known.
     fn write(&mut self, bytes: &[u8]) -> Result<usize, Failed>
         requires { failed_calls self.old < 2 ^ 63 }
         ensures within { WritesAtMost result bytes.now }

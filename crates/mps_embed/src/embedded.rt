@@ -64,12 +64,13 @@ fn turn_to(solo: &mut Solo, numbers: &mut [Numbers; 8], role: Role)
     ensures same { slice_set numbers.new solo.new.role solo.new.numbers
         ≡ slice_set numbers.old solo.old.role solo.old.numbers }
 {
+    // the first swap puts those of the old role back, the second takes those of the new one
     mem::swap(&mut solo.numbers, &mut numbers[solo.role.index()]);
     solo.role = role;
     mem::swap(&mut solo.numbers, &mut numbers[role.index()]);
 }
 
-// Puts an outcome in place of the one before it.
+// Puts an outcome in place of the one before it, which is dropped.
 fn put(outcome: &mut Outcome, newest: Outcome)
     ensures { outcome.new ≡ newest }
 {
@@ -94,8 +95,8 @@ fn no_numbers() -> [Numbers; 8]
 }
 
 impl Embedded {
-    /// A room of a new session of the protocol that the text spells. Before the first line the answer is `refused
-    /// norole`.
+    /// A room of a new session of the protocol that the text spells. Before the first line the answer is
+    /// `refused norole`.
     pub fn open(alloc: Global, text: &[u8]) -> Result<Embedded, Fault>
         ensures opened { IfOk result (IsNewRoomOf text.now) }
         ensures fault { IfErr result (GivesNoSession text.now) }
@@ -103,6 +104,7 @@ impl Embedded {
         let (roles, session) = open_text(alloc, text)?;
         let room = Room::open(alloc, roles, session);
         Ok(Embedded {
+            // any role, since `line` turns to the one that speaks
             solo: Solo::new(room, Role::new(0)),
             numbers: no_numbers(),
             outcome: Outcome::Reply(Reply::NoRole),
@@ -111,7 +113,7 @@ impl Embedded {
         })
     }
 
-    // Runs the line as a command of the role.
+    // Runs the line as a command of the role, and keeps what is to be answered.
     fn run(&mut self, role: Role, line: &[u8])
         requires known { role < length self.old.room.types }
         requires few { length self.old.room.types ≤ 8 }
@@ -130,6 +132,7 @@ impl Embedded {
         ensures unknown { All (λ name. name ≢ role.now) self.old.room.names → IsToNobody self.old self.new }
     {
         let names = self.solo.room.names();
+        // looked at for the proof alone: the roles are at most 8
         let _few = names.count();
         match names.find_spelled(role) {
             Some(place) => self.run(place, line),
@@ -137,8 +140,8 @@ impl Embedded {
         }
     }
 
-    /// Writes the answer to the newest line at the end, without a line break. It may be asked for as often as wanted,
-    /// so it isn't lost where memory runs out, though a part of it may stand there then.
+    /// Writes the answer to the newest line at the end of `out`, without a line break. It may be asked for as often as
+    /// wanted, so it isn't lost where memory runs out, though a part of it may stand there then.
     pub fn write_answer(&self, out: &mut Vec<u8>) -> Result<(), AllocError>
         ensures ok { OnOk result (AppendsSuch (λ text. SpellsReply text self.now.reply) out.old.items out.new.items) }
         ensures err { OnErr result (StartsWith out.new.items out.old.items) }
@@ -146,7 +149,7 @@ impl Embedded {
         write_outcome(&self.solo, &self.outcome, out)
     }
 
-    /// The room.
+    /// The room, as the lines so far have left it.
     pub fn room(&self) -> &Room
         ensures { result.now ≡ self.now.room }
     {

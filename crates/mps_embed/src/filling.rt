@@ -12,7 +12,7 @@ use mps_wire::laws::each_entry_can_be_written;
 use mps_wire::write_outcome;
 use std::alloc::AllocError;
 
-// Copies of the text what fits.
+// Copies the front of the text over the front of `out`, as much of it as fits.
 fn copy_front(text: &[u8], out: &mut [u8])
     ensures { out.new ≡ front_over text.now out.old }
 {
@@ -20,18 +20,19 @@ fn copy_front(text: &[u8], out: &mut [u8])
     out[..n].copy_from_slice(&text[..n]);
 }
 
-// Each entry of a room's journal has a line.
+// A law: each entry of a room's journal has a line.
 fn each_has_a_line(room: &Room)
     ensures { (k : ℕ) (entry : Kept) → slice_get room.now.journal k ≡ Some entry
         → CanBeWritten room.now.names entry.role entry.command }
 {
+    // looked at for the proof alone: the journal is legal, there is a name for each type, peers are roles
     let _legal = room.entries();
     let _many = room.names();
     let _peers = room.session().roles();
     each_entry_can_be_written();
 }
 
-// Puts the line of the k-th entry in place of what the buffer had. Past the end that is nothing.
+// Puts the line of the k-th entry, from 0, in place of what the buffer had. Past the end the buffer is empty then.
 fn put_entry(room: &Room, k: u64, text: &mut Vec<u8>) -> Result<(), AllocError>
     ensures line { (entry : Kept) → slice_get room.now.journal k ≡ Some entry
         → OnOk result (SpellsJournalLine room.now.names text.new.items entry.role None entry.command) }
@@ -42,13 +43,14 @@ fn put_entry(room: &Room, k: u64, text: &mut Vec<u8>) -> Result<(), AllocError>
         return Ok(());
     };
     let (role, command) = asked;
+    // for the proof alone
     each_has_a_line(room);
     write_journal_line(room.names(), role, None, &command, text)
 }
 
 impl Embedded {
-    /// Writes the answer to the newest line, or as much of it as fits, and gives the length of the whole. It may be
-    /// asked for as often as wanted, so an answer isn't lost where memory runs out for its text.
+    /// Writes the answer to the newest line over the front of `out`, or as much of it as fits, and gives the length of
+    /// the whole. It may be asked for as often as wanted, so an answer isn't lost where memory runs out for its text.
     pub fn answer_into(&mut self, out: &mut [u8]) -> Result<usize, AllocError>
         ensures same { self.new ≡ self.old }
         ensures ok { IfOk result (IsFilled (λ text. SpellsReply text self.old.reply) out.old out.new) }
@@ -60,8 +62,8 @@ impl Embedded {
         Ok(self.text.len())
     }
 
-    /// Writes the k-th entry of the journal, from 0, as a script's line, or as much of it as fits, and gives the
-    /// length of the whole line. Past the end that is 0, and nowhere else.
+    /// Writes the k-th entry of the journal, from 0, as a script's line over the front of `out`, or as much of it as
+    /// fits, and gives the length of the whole line. Past the end that is 0, and nowhere else.
     pub fn entry_into(&mut self, k: u64, out: &mut [u8]) -> Result<usize, AllocError>
         ensures same { self.new ≡ self.old }
         ensures line { (entry : Kept) → slice_get self.old.room.journal k ≡ Some entry

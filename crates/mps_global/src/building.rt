@@ -7,7 +7,8 @@ use mps_base::{Name, Sort, VarName};
 use std::alloc::{self, AllocError};
 
 impl Global {
-    /// `rec` of the variable, and then the body, in which the variable stands for the whole.
+    /// `rec` of the variable, and then the body, in which the variable stands for the whole. The body is dropped where
+    /// memory runs out.
     pub fn rec(alloc: alloc::Global, name: VarName, body: Global) -> Result<Global, AllocError>
         ensures { IfOk result (λ g. plain g ≡ Rec name (plain body)) }
     {
@@ -15,7 +16,8 @@ impl Global {
         Ok(Global::Rec(name, body))
     }
 
-    /// The sender gives the receiver a value of the sort, and then `next` happens.
+    /// The sender gives the receiver a value of the sort, and then `next` happens. `next` is dropped where memory runs
+    /// out.
     pub fn message(
         alloc: alloc::Global,
         sender: Name,
@@ -36,7 +38,7 @@ impl Global {
 }
 
 impl Branches {
-    /// A branch in front of the others.
+    /// A branch in front of the others. What follows its label, and the others, are dropped where memory runs out.
     pub fn more(
         alloc: alloc::Global,
         label: Name,

@@ -52,8 +52,8 @@ pub enum GlobalFault {
     Unguarded,
 }
 
-/// Whether a protocol is well-formed, or else its first fault. The tree may be of any size: nothing
-/// goes more than 257 nodes deep into it.
+/// Whether a protocol is well-formed, or else its first fault: of its roles, then of its size, then of its nodes in
+/// preorder. The tree may be of any size: nothing goes more than 257 nodes deep into it.
 pub fn check(protocol: &Protocol) -> Result<(), GlobalFault>
     ensures ok { IsOk result
         ↔ (fault_of protocol.now.roles.items (plain protocol.now.body) ≡ None) }
@@ -88,8 +88,8 @@ pub fn protocol_laws()
         → fault_of roles tree ≡ None → (node_count tree ≤ 256) × (depth tree ≤ 64) }
 {}
 
-/// The size of a tree by the list of its nodes: it has as many nodes as stand there, and is as deep
-/// as the deepest of them stands.
+/// The size of a tree by the list of its nodes: `places` lists as many nodes as `node_count` says, and the greatest
+/// `level` in it is `depth`.
 pub fn size_laws()
     ensures nodes { (tree : GlobalType) → length (places [] tree) ≡ node_count tree }
     ensures levels { (tree : GlobalType) → greatest (map level (places [] tree)) ≡ depth tree }
@@ -112,7 +112,8 @@ fn is_among(names: &[Name], name: &Name) -> bool
     names.iter().any(|other| other.is(name))
 }
 
-// What is left of the limit after each node has taken 1, or None where the nodes are more.
+// What is left of the limit after each node has taken 1, or `None` where the nodes are more. It goes no deeper than the
+// limit.
 #[cycle(nodes)]
 #[tactic(auto, using(crate::proofs::Sizes::some_node))]
 fn nodes_left(tree: &Global, limit: usize) -> Option<usize>
@@ -130,7 +131,7 @@ fn nodes_left(tree: &Global, limit: usize) -> Option<usize>
     }
 }
 
-// The same of the nodes of the branches.
+// What is left of the limit after each node of the branches has taken 1, or `None` where the nodes are more.
 #[cycle(nodes)]
 fn branch_nodes_left(branches: &Branches, limit: usize) -> Option<usize>
     ensures { MatchOption result
@@ -173,7 +174,7 @@ fn are_within(branches: &Branches, limit: usize) -> bool
     }
 }
 
-// What is wrong with the first faulty node in preorder.
+// The fault of the first faulty node of the tree in preorder, if there is one. `above` is the path to the tree.
 #[cycle(walk)]
 fn first_fault(roles: &[Name], tree: &Global, above: &Above<'_>) -> Option<GlobalFault>
     ensures { result
@@ -192,7 +193,7 @@ fn first_fault(roles: &[Name], tree: &Global, above: &Above<'_>) -> Option<Globa
     }
 }
 
-// The same of the nodes of the branches.
+// The fault of the first faulty node of the branches in preorder, if there is one. `above` is the path to them.
 #[cycle(walk)]
 #[tactic(auto, using(crate::proofs::Walks::first_of_both))]
 fn first_branch_fault(roles: &[Name], branches: &Branches, above: &Above<'_>) -> Option<GlobalFault>
@@ -208,7 +209,7 @@ fn first_branch_fault(roles: &[Name], branches: &Branches, above: &Above<'_>) ->
     }
 }
 
-// What is wrong at the node with that path.
+// The fault of the node itself, if it has one, whatever stands below it. `above` is the path to the node.
 fn node_fault(roles: &[Name], node: &Global, above: &Above<'_>) -> Option<GlobalFault>
     ensures { result
         ≡ first_true (node_tests roles.now (edges above.now) (plain node.now)) }
@@ -233,7 +234,7 @@ fn node_fault(roles: &[Name], node: &Global, above: &Above<'_>) -> Option<Global
     }
 }
 
-// What is wrong with a variable that has that path.
+// The fault of a variable: no `rec` of it stands on the path `above`, or no act between that and the variable.
 fn variable_fault(name: &VarName, above: &Above<'_>) -> Option<GlobalFault>
     ensures { result ≡ first_true (variable_tests name.now (edges above.now)) }
 {
@@ -246,7 +247,7 @@ fn variable_fault(name: &VarName, above: &Above<'_>) -> Option<GlobalFault>
     None
 }
 
-// What is wrong with a `rec` of that variable, which has that path.
+// The fault of a `rec` of that variable: another `rec` of it stands on the path `above`.
 fn rec_fault(name: &VarName, above: &Above<'_>) -> Option<GlobalFault>
     ensures { result ≡ first_true (rec_tests name.now (edges above.now)) }
 {
@@ -256,7 +257,8 @@ fn rec_fault(name: &VarName, above: &Above<'_>) -> Option<GlobalFault>
     None
 }
 
-// What is wrong with the two roles of a message or a choice.
+// What is wrong with the two roles of a message or a choice, if anything: one isn't among the roles, or they are the
+// same.
 fn pair_fault(roles: &[Name], sender: &Name, receiver: &Name) -> Option<GlobalFault>
     ensures { result ≡ first_true (pair_tests roles.now sender.now receiver.now) }
 {
@@ -269,7 +271,7 @@ fn pair_fault(roles: &[Name], sender: &Name, receiver: &Name) -> Option<GlobalFa
     None
 }
 
-// What is wrong with the labels of a choice.
+// What is wrong with the labels of a choice, if anything: one stands twice, they are too many, or there is none.
 fn label_fault(branches: &Branches) -> Option<GlobalFault>
     ensures { result ≡ first_true (label_tests (labels (plain_branches branches.now))) }
 {
@@ -285,7 +287,7 @@ fn label_fault(branches: &Branches) -> Option<GlobalFault>
     }
 }
 
-// Whether two branches have one label.
+// Whether a label stands twice in the branches.
 fn has_double_label(branches: &Branches) -> bool
     ensures { result ≡ has_double (labels (plain_branches branches.now)) }
 {
@@ -310,7 +312,7 @@ fn has_label(branches: &Branches, label: &Name) -> bool
     }
 }
 
-// Whether the branches are more than the limit.
+// Whether the branches are more than the limit. One more than the limit are looked at, at most.
 fn has_more_than(branches: &Branches, limit: usize) -> bool
     ensures { result ≡ nat_lt limit (length (labels (plain_branches branches.now))) }
 {

@@ -55,8 +55,8 @@ pub enum Branches {
 }
 
 impl Drop for Global {
-    // in a loop, so that no tree, long, deep or wide, runs the stack out: what still waits stands
-    // in a list of branches, made of the boxes that are there
+    // Drops the tree in a loop, so that none, long, deep or wide, runs the stack out: what still waits stands in a list
+    // of branches, made of the boxes that are there.
     #[tactic(auto, using(crate::proofs::Weights::some_weight))]
     fn drop(mut self) {
         let mut waiting = Branches::NoMore;
@@ -82,6 +82,8 @@ impl Drop for Global {
                     branches,
                 } => match branches.first() {
                     None => self = Global::End,
+                    // the first branch's tree is next: its box takes the rest of the choice, and the other box what
+                    // waited before
                     Some((label, mut next, mut others)) => {
                         let branches = mem::replace(&mut *others, waiting);
                         let rest = Global::Choice {
@@ -103,6 +105,7 @@ impl Drop for Global {
 }
 
 impl Drop for Branches {
+    // Drops the branches in a loop, one after the other; the tree of each is dropped in a loop too.
     fn drop(mut self) {
         loop {
             match self {
@@ -121,7 +124,7 @@ impl Drop for Branches {
 }
 
 impl Branches {
-    // The first branch and the others, where there is one.
+    // The first branch, in its parts, and the others, where there is one.
     fn first(self) -> Option<(Name, Box<Global>, Box<Branches>)>
         ensures { MatchOption result
             ((branch_weight self ≡ 1) × (waiting_weight self ≡ 0))

@@ -24,7 +24,7 @@ pub fn is_bound(name: &VarName, above: &Above<'_>) -> bool
     }
 }
 
-/// Whether a `rec` of the variable stands on the path below the nearest act.
+/// Whether a `rec` of the variable stands on the path below the nearest act, so that no act comes between the two.
 pub fn is_unguarded(name: &VarName, above: &Above<'_>) -> bool
     ensures { result ≡ is_unguarded name.now (edges above.now) }
 {

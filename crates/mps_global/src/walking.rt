@@ -31,6 +31,7 @@ impl<'a> Iterator for Arms<'a> {
 
     ghost remaining = { λ s. at_most (arm_count (arms_left s)) };
 
+    // The next branch, as its label and what follows it, until none is left.
     fn next(&mut self) -> Option<(&'a Name, &'a Global)> {
         match self.rest {
             Branches::NoMore => None,

@@ -13,7 +13,8 @@ ghost use Rattle.mps_history.specs.Dependence.{DependsOn, IsClosed, consequences
 ghost use Rattle.mps_history.specs.Removals.{without_future, both_futures};
 ghost use Rattle.mps_history.specs.Swaps.{is_matched_after};
 
-/// In a history whose numbers rise, a step is found by its number, and only a step that has the number.
+/// In a history whose numbers rise, `step_of` finds each step by its number. What it finds in any history stands there,
+/// and has the number.
 pub fn found_by_number()
     ensures found { (h : List Step) (s : Step) → IsRising h → IsIn s h → step_of h s.id ≡ Some s }
     ensures only { (h : List Step) (n : ℕ) (s : Step) → step_of h n ≡ Some s
@@ -25,8 +26,8 @@ pub fn dependence_goes_back()
     ensures { (h : List Step) (t s : Step) → DependsOn h t s → s.id < t.id }
 {}
 
-/// The pass that finds the consequences of a step finds the step and all that reach it by one or more direct
-/// dependences (Lamport 1978), and no other.
+/// The consequences of a step are the step and all that depend on it through one or more direct dependences (Lamport
+/// 1978), and no other. What depends on one of them is one of them.
 pub fn consequences_are_reaching()
     ensures members { (h : List Step) (s t : Step) → IsRising h → IsIn s h → IsIn t h →
         (IsTrue (consequences h s.id t.id) ↔ ((t ≡ s) ⊎ DependsOn h t s)) }
@@ -41,7 +42,7 @@ pub fn a_last_step_is_alone()
         without (h ++ s ∷ []) (λ m. m == s.id) ≡ h }
 {}
 
-/// The consequences of a step are the least closed set with it.
+/// A closed set that has a step has all of its consequences: these are the least closed set with the step.
 pub fn consequences_are_least()
     ensures { (h : List Step) (n : ℕ) (set : ℕ → Bool) (t : Step)
         → IsClosed h set → IsTrue (set n) → IsIn t h → IsTrue (consequences h n t.id) → IsTrue (set t.id) }
@@ -59,8 +60,8 @@ pub fn removals_commute()
         → without_future (without_future h m) n ≡ without_future h m }
 {}
 
-/// In a history whose numbers rise, a receipt is matched with the send right before it, by their numbers, exactly
-/// where it is by their places.
+/// Where numbers rise, `is_matched`, which goes by numbers, says of a step and the one right after it what
+/// `is_matched_after` says, which goes by places.
 pub fn neighbours_match_by_place()
     ensures { (a b : List Step) (s t : Step) → IsRising (a ++ s ∷ t ∷ b) →
         is_matched (a ++ s ∷ t ∷ b) s t ≡ is_matched_after a s t }

@@ -5,3 +5,4 @@ pub mod Recording
 pub mod Restoring
 pub mod Rerunning
 pub mod Restarting
+pub mod Sealed

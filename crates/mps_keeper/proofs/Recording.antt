@@ -16,13 +16,12 @@ use Rattle.mps_room.specs.declared.numbers.Told.TheVariants.{Fresh, Refused}
 use Rattle.mps_wire.specs.Answers.{AnswersBrokenOff, AnswersLines}
 use Rattle.mps_wire.specs.Conversations.{RepliesTo, Unread, Called, Numbered, Starved, ConversesLine, ConversesBrokenOff}
 use Rattle.mps_wire.proofs.Calling.{whole_is_broken}
-use Rattle.mps_keeper.specs.Books.{TookMore}
+use Rattle.mps_keeper.specs.Books.{Sealed, TookMore, bytes_of}
 use Rattle.mps_keeper.specs.Recorded.{IsRecorded, IsSettled}
 use Rattle.mps_keeper.specs.Trails.{SpellEntries, RecordedOn, WrittenIsRecorded}
-use Rattle.std.specs.Io.KnownBytes.{Appends}
-use Rattle.mps_wire.proofs.Bytes.{Appends-none}
 use Rattle.mps_keeper.proofs.Counting.{counts_on}
-use Rattle.mps_keeper.proofs.Taking.{more_trans, no_more, took_more}
+use Rattle.mps_keeper.proofs.Sealed.{sealed_more, sealed_none}
+use Rattle.mps_keeper.proofs.Taking.{more_trans, no_more}
 use Rattle.mps_keeper.specs.declared.recorder.Recorder.{Ghosts as RecorderGhosts}
 
 spell_all : (names : List (List ℕ)) (a : List (List ℕ)) (m : List (Option ℕ)) (d : List Entry) (b : List (List ℕ)) (n : List (Option ℕ)) (e : List Entry) → SpellEntries names a m d → SpellEntries names b n e → SpellEntries names (a ++ b) (m ++ n) (d ++ e)
@@ -31,20 +30,20 @@ spell_all names (l ∷ a) (i ∷ m) (x ∷ d) b n e h k = (h.0, spell_all names 
 spell_all names other others further b n e h k = absurd h
 
 -- Callers of whose calls it is known what they record.
-module _ {R : Type 0} (caller : Ghosts R) (records whole : R → Bool) (taken : R → Option (List ℕ)) where
+module _ {R : Type 0} (caller : Ghosts R) (records whole : R → Bool) (taken : R → Option Sealed) where
   -- where c records lines so does d; what was made from c to d is recorded then, where d is whole
   pub record Leads (c d : R) : Type 0 where
     pub names : caller.names d ≡ caller.names c
     pub same : records d ≡ records c
     pub before : whole d ≡ true → whole c ≡ true
     pub goes : records c ≡ true → whole d ≡ true → RecordedOn (caller.names c) (taken c) (taken d) (caller.last c) (caller.last d) (caller.made c) (caller.made d)
-    pub more : TookMore (taken c) (taken d)
+    pub more : TookMore (bytes_of (taken c)) (bytes_of (taken d))
 
   nothing : (c : R) → RecordedOn (caller.names c) (taken c) (taken c) (caller.last c) (caller.last c) (caller.made c) (caller.made c)
-  nothing c = record { lines = []; numbers = []; entries = []; grown = sym (append-nil (caller.made c)); counted = refl; spelled = tt; took = Appends-none (taken c) }
+  nothing c = record { lines = []; numbers = []; entries = []; grown = sym (append-nil (caller.made c)); counted = refl; spelled = tt; took = sealed_none (taken c) }
 
   nowhere : (c : R) → Leads c c
-  nowhere c = record { names = refl; same = refl; before = λ w. w; goes = λ k w. nothing c; more = no_more (taken c) }
+  nowhere c = record { names = refl; same = refl; before = λ w. w; goes = λ k w. nothing c; more = no_more (bytes_of (taken c)) }
 
   stays : (c d : R) → d ≡ c → Leads c d
   stays c d same = subst (Leads c) (sym same) (nowhere c)
@@ -58,7 +57,7 @@ module _ {R : Type 0} (caller : Ghosts R) (records whole : R → Bool) (taken : 
     grown = next.grown ∙ ap (λ (l : List Entry). l ++ next.entries) first.grown ∙ append_assoc (caller.made c) first.entries next.entries;
     counted = counts_on (caller.last c) (caller.last m) (caller.last d) first.numbers next.numbers first.counted next.counted;
     spelled = spell_all (caller.names c) first.lines first.numbers first.entries next.lines next.numbers next.entries first.spelled (subst (λ (n : List (List ℕ)). SpellEntries n next.lines next.numbers next.entries) names next.spelled);
-    took = took_more (taken c) (taken m) (taken d) first.lines next.lines first.took next.took;
+    took = sealed_more (taken c) (taken m) (taken d) first.lines next.lines first.took next.took;
   }
 
   further : (c m d : R) → Leads c m → Leads m d → Leads c d
@@ -67,7 +66,7 @@ module _ {R : Type 0} (caller : Ghosts R) (records whole : R → Bool) (taken : 
     same = k.same ∙ h.same;
     before = λ w. h.before (k.before w);
     goes = λ s w. joined c m d h.names (h.goes s (k.before w)) (k.goes (h.same ∙ s) w);
-    more = more_trans (taken c) (taken m) (taken d) h.more k.more;
+    more = more_trans (bytes_of (taken c)) (bytes_of (taken m)) (bytes_of (taken d)) h.more k.more;
   }
 
   module _ (leads : (c : R) (x : Command) (a : Answer) (d : R) → caller.calls c x a d → Leads c d) where
@@ -96,7 +95,7 @@ module _ {R : Type 0} (caller : Ghosts R) (records whole : R → Bool) (taken : 
     longer l done c m e out others text is line a = grind (arith, append-nil, whole_is_broken)
 
     at_last : (l : List ℕ) (c : R) (written : List ℕ) (d : R) → records c ≡ true → whole c ≡ true → ((r : R) → caller.may_tell r ≡ whole r) → (b : Bool) → whole d ≡ b → ConversesBrokenOff caller l c written d → WrittenIsRecorded caller taken (l ∷ []) c written d
-    at_last l c written d s w tells true on a = record { asked = l ∷ []; others = []; first = refl; reached = d; answered = a; whole = tells d ∙ on; recorded = (replied l c a.reply d a.replies).goes s on; since = no_more (taken d) }
+    at_last l c written d s w tells true on a = record { asked = l ∷ []; others = []; first = refl; reached = d; answered = a; whole = tells d ∙ on; recorded = (replied l c a.reply d a.replies).goes s on; since = no_more (bytes_of (taken d)) }
     at_last l c written d s w tells false off a = record { asked = []; others = l ∷ []; first = refl; reached = c; answered = (a.silent (tells d ∙ off), refl); whole = tells c ∙ w; recorded = nothing c; since = (replied l c a.reply d a.replies).more }
 
     pub written_is_recorded : ((r : R) → caller.may_tell r ≡ whole r) → (lines : List (List ℕ)) (c : R) (written : List ℕ) (d : R) → records c ≡ true → whole c ≡ true → AnswersBrokenOff (ConversesLine caller) (ConversesBrokenOff caller) lines c written d → WrittenIsRecorded caller taken lines c written d
@@ -127,7 +126,7 @@ module _ {K C : Type 0} (recorder : RecorderGhosts K) (caller : Ghosts C) where
     grown = grows;
     counted = h.numbered;
     spelled = (h.spelled, tt);
-    took = subst (Appends (recorder.taken k) (recorder.taken k')) (sym (append-nil (ended h.line))) h.added;
+    took = h.added;
   }
   settled k c command k' d a false h grows = record {
     lines = [];

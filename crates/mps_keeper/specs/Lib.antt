@@ -7,3 +7,4 @@ pub mod BookParts
 pub mod Restored
 pub mod RestoredFaults
 pub mod Restarted
+pub mod Chains

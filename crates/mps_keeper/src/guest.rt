@@ -1,10 +1,8 @@
 //! A role's caller in a connection.
-ghost use Rattle.std.specs.Prelude.{◌≡◌, ℕ, Bool, true, false, List, [], Option, IsTrue};
-ghost use Rattle.std.specs.Io.KnownBytes.{Appends};
+ghost use Rattle.std.specs.Prelude.{◌≡◌, ◌∷◌, ℕ, Bool, true, false, List, [], Option, IsTrue};
 ghost use Rattle.mps_command.specs.declared.command.Command.{Command as Asked};
-ghost use Rattle.mps_lines.specs.Lines.{ended};
 ghost use Rattle.mps_room.specs.Journal.{is_accepted};
-ghost use Rattle.mps_keeper.specs.Books.{TookMore};
+ghost use Rattle.mps_keeper.specs.Books.{TookMore, TookSealed, bytes_of};
 ghost use Rattle.mps_line.specs.JournalLines.{SpellsJournalLine};
 ghost use Rattle.mps_keeper.specs.Recorded.{IsRecorded};
 
@@ -34,6 +32,7 @@ impl<'g, G: Gate, K: Recorder, C: Recordable> Guest<'g, G, K, C> {
     /// what the caller has seen is recorded, since a line that comes again is answered without a call.
     ///
     /// A line is made in `line`. With space for `LONGEST_LINE` bytes none is lost for want of memory.
+    #[tactic(auto, using(crate::proofs::Sealed::sealed_none))]
     pub fn new(
         gate: &'g G,
         connection: u64,
@@ -44,8 +43,8 @@ impl<'g, G: Gate, K: Recorder, C: Recordable> Guest<'g, G, K, C> {
         ensures inner { result.inner ≡ inner }
         ensures same { K.records result.recorder ≡ K.records recorder }
         ensures once { K.whole result.recorder ≡ true → K.whole recorder ≡ true }
-        ensures settled { Appends (K.taken recorder) (K.taken result.recorder) [] }
-        ensures more { TookMore (K.taken recorder) (K.taken result.recorder) }
+        ensures settled { TookSealed (K.taken recorder) [] (K.taken result.recorder) }
+        ensures more { TookMore (bytes_of (K.taken recorder)) (bytes_of (K.taken result.recorder)) }
         ensures idle { K.records recorder ≡ false → result.recorder ≡ recorder }
     {
         let mut recorder = recorder;
@@ -75,18 +74,15 @@ impl<'g, G: Gate, K: Recorder, C: Recordable> Guest<'g, G, K, C> {
     fn put_line(&mut self, number: Option<u64>, command: &Command) -> bool
         ensures recorder { self.new.recorder ≡ self.old.recorder }
         ensures inner { self.new.inner ≡ self.old.inner }
-        ensures put { IsTrue result → (line : List ℕ) × (self.new.line.items ≡ ended line)
-            × SpellsJournalLine (C.names self.old.inner) line (C.role self.old.inner) number command.now }
+        ensures put { IsTrue result → SpellsJournalLine
+            (C.names self.old.inner) self.new.line.items (C.role self.old.inner) number command.now }
     {
         self.line.clear();
         let role = self.inner.own_role();
         if !has_journal_line(self.inner.roles(), role, command) {
             return false;
         }
-        if write_journal_line(self.inner.roles(), role, number, command, &mut self.line).is_err() {
-            return false;
-        }
-        self.line.push(b'\n').is_ok()
+        write_journal_line(self.inner.roles(), role, number, command, &mut self.line).is_ok()
     }
 
     // Records the line where the command was accepted, and else waits for what it was shown.
@@ -95,17 +91,17 @@ impl<'g, G: Gate, K: Recorder, C: Recordable> Guest<'g, G, K, C> {
         ensures same { K.records self.new.recorder ≡ K.records self.old.recorder }
         ensures once { K.whole self.new.recorder ≡ true → K.whole self.old.recorder ≡ true }
         ensures added { K.whole self.new.recorder ≡ true → accepted ≡ true
-            → IsTrue put × Appends (K.taken self.old.recorder) (K.taken self.new.recorder) self.old.line.items }
-        ensures settled { accepted ≡ false → Appends (K.taken self.old.recorder) (K.taken self.new.recorder) [] }
+            → IsTrue put × TookSealed (K.taken self.old.recorder) (self.old.line.items ∷ []) (K.taken self.new.recorder) }
+        ensures settled { accepted ≡ false → TookSealed (K.taken self.old.recorder) [] (K.taken self.new.recorder) }
         ensures over { K.whole self.old.recorder ≡ false
-            → Appends (K.taken self.old.recorder) (K.taken self.new.recorder) [] }
-        ensures more { TookMore (K.taken self.old.recorder) (K.taken self.new.recorder) }
+            → TookSealed (K.taken self.old.recorder) [] (K.taken self.new.recorder) }
+        ensures more { TookMore (bytes_of (K.taken self.old.recorder)) (bytes_of (K.taken self.new.recorder)) }
     {
         let shown = self.inner.seen();
         if !accepted {
             self.recorder.settle(shown);
         } else if put {
-            self.recorder.add(shown, self.line.as_slice());
+            self.recorder.add(shown, &mut self.line);
         } else {
             self.recorder.lose();
         }
@@ -142,11 +138,13 @@ impl<'g, G: Gate, K: Recorder, C: Recordable> Caller for Guest<'g, G, K, C> {
         self.inner.roles()
     }
 
+    #[tactic(auto, using(crate::proofs::Sealed::sealed_none))]
     fn call(&mut self, command: Command) -> Answer {
         self.stop();
         if !self.recorder.records() {
             return self.inner.call(command);
         }
+        // spelled before the call, into which the command moves
         let put = self.put_line(None, &command);
         let answer = self.inner.call(command);
         self.record(is_accepted(&answer), put);
@@ -161,11 +159,13 @@ impl<'g, G: Gate, K: Recorder, C: Recordable> Caller for Guest<'g, G, K, C> {
         self.inner.kept()
     }
 
+    #[tactic(auto, using(crate::proofs::Sealed::sealed_none))]
     fn call_next(&mut self, number: u64, command: Command) -> Result<(), Refusal> {
         self.stop();
         if !self.recorder.records() {
             return self.inner.call_next(number, command);
         }
+        // spelled before the call, into which the command moves
         let put = self.put_line(Some(number), &command);
         let came = self.inner.call_next(number, command);
         self.record(came.is_ok(), put);

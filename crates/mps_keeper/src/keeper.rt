@@ -1,20 +1,25 @@
 //! The file of a journal that the connections of a session share.
-ghost use Rattle.std.specs.Prelude.{◌≡◌, ◌+◌, ◌++◌, true, false};
+ghost use Rattle.std.specs.Prelude.{◌≡◌, ◌+◌, ◌++◌, [], true, false, OnOk, OnErr};
+ghost use Rattle.std.specs.Io.KnownBytes.{Appends};
+ghost use Rattle.mps_lines.specs.Lines.{ended};
+ghost use Rattle.mps_seal.specs.Seals.{next_seal, sealed};
 
 use crate::book::Book;
 use crate::recorder::Recorder;
+use crate::sealing::end_line;
 use mps_base::MAX_ROLES;
 use mps_dev::Sink;
 use mps_lines::MAX_LINE;
+use mps_seal::{SEAL_BYTES, Seal};
 use std::alloc::{AllocError, Global};
 use std::fs::File;
 use std::mem;
 use std::sync::atomic::{AtomicBool, AtomicU64, Ordering};
 use std::sync::{Condvar, Mutex, Wait};
 
-/// How many bytes a line has at most, with its LF, whose command came as a line of a conversation: a name, a number
-/// below 2^64, a command, and two spaces.
-pub const LONGEST_LINE: usize = 32 + 1 + 20 + 1 + MAX_LINE + 1;
+/// How many bytes a line has at most, with its seal and its LF, whose command came as a line of a conversation: a name, a
+/// number below 2^64, a command, and two spaces.
+pub const LONGEST_LINE: usize = 32 + 1 + 20 + 1 + MAX_LINE + SEAL_BYTES + 1;
 
 /// A disk that can be told to store what was written.
 pub trait Disk {
@@ -34,22 +39,38 @@ struct Waiting {
     text: Vec<u8>,
     // how many lines came so far, those that are written included
     lines: u64,
+    // of the newest of them
+    seal: Seal,
     whole: bool,
 }
 
 impl Waiting {
-    // Adds the nth line, from 1, which has to be the next one.
-    fn add(&mut self, nth: u64, line: &[u8])
+    // Adds the line with its seal and an LF. Where memory runs out there is nothing more than before.
+    fn push(&mut self, line: &mut Vec<u8>) -> Result<(), AllocError>
+        ensures whole { self.new.whole ≡ self.old.whole }
+        ensures lines { self.new.lines ≡ self.old.lines }
+        ensures text { OnOk result
+            (self.new.text.items ≡ self.old.text.items ++ ended (sealed self.old.seal line.old.items)) }
+        ensures seal { OnOk result (self.new.seal ≡ next_seal self.old.seal line.old.items) }
+        ensures lost { OnErr result (self.new.text.items ≡ self.old.text.items) }
+    {
+        let seal = end_line(&self.seal, line)?;
+        self.text.extend_from_slice(line.as_slice())?;
+        self.seal = seal;
+        Ok(())
+    }
+
+    // Adds the nth line, from 1, which has to be the next one, with its seal and an LF.
+    fn add(&mut self, nth: u64, line: &mut Vec<u8>)
         ensures once { self.new.whole ≡ true → self.old.whole ≡ true }
         ensures next { self.new.whole ≡ true → nth ≡ self.old.lines + 1 }
         ensures lines { self.new.whole ≡ true → self.new.lines ≡ nth }
-        ensures text { self.new.whole ≡ true → self.new.text.items ≡ self.old.text.items ++ line.now }
+        ensures text { self.new.whole ≡ true
+            → self.new.text.items ≡ self.old.text.items ++ ended (sealed self.old.seal line.old.items) }
+        ensures seal { self.new.whole ≡ true → self.new.seal ≡ next_seal self.old.seal line.old.items }
         ensures lost { self.new.whole ≡ false → self.new.text.items ≡ self.old.text.items }
     {
-        if self.whole
-            && self.lines.checked_add(1) == Some(nth)
-            && self.text.extend_from_slice(line).is_ok()
-        {
+        if self.whole && self.lines.checked_add(1) == Some(nth) && self.push(line).is_ok() {
             self.lines = nth;
         } else {
             self.whole = false;
@@ -93,6 +114,7 @@ impl<W: Sink + Drop, D: Drop> Keeper<W, D> {
         let waiting = Waiting {
             text: lines_space(alloc)?,
             lines,
+            seal: book.seal(),
             whole: true,
         };
         Ok(Keeper {
@@ -127,7 +149,7 @@ impl<W: Sink, D> Keeper<W, D> {
     }
 
     // Adds the nth line to those that wait, once those before it came.
-    fn gather<R: Wait>(&self, rt: &R, nth: u64, line: &[u8]) {
+    fn gather<R: Wait>(&self, rt: &R, nth: u64, line: &mut Vec<u8>) {
         let mut waiting = self.came.wait_while(rt, self.waiting.lock(rt), |w| {
             w.whole && w.lines.saturating_add(1) < nth
         });
@@ -144,21 +166,31 @@ impl<W: Sink, D> Keeper<W, D> {
         drop(waiting);
     }
 
-    // Hands over the lines that wait. Says how many there are now, if none is lost.
-    fn hand_over<R: Wait>(&self, rt: &R, text: &mut Vec<u8>) -> Option<u64> {
+    // Hands over the lines that wait. Says how many there are now, and which seal the newest has, if none is lost.
+    fn hand_over<R: Wait>(&self, rt: &R, text: &mut Vec<u8>) -> Option<(u64, Seal)> {
         let mut waiting = self.waiting.lock(rt);
         if !waiting.whole {
             return None;
         }
         mem::swap(&mut waiting.text, text);
-        Some(waiting.lines)
+        Some((waiting.lines, waiting.seal))
     }
 }
 
 impl<W: Sink, D: Disk> Keeper<W, D> {
+    ghost use Rattle.mps_keeper.specs.BookParts.{sink_of, lines_of};
+
     // Writes the lines that were handed over, and syncs them. Says whether they are recorded.
-    fn write(&self, writing: &mut Writing<W>, lines: u64) -> bool {
-        let written = writing.book.append(writing.text.as_slice(), lines).is_ok();
+    fn write(&self, writing: &mut Writing<W>, lines: u64, seal: Seal) -> bool
+        ensures taken { result ≡ true → Appends (W.taken (sink_of writing.old.book)) (W.taken (sink_of writing.new.book))
+            writing.old.text.items }
+        ensures lines { result ≡ true → lines_of writing.new.book ≡ lines }
+        ensures emptied { writing.new.text.items ≡ [] }
+    {
+        let written = writing
+            .book
+            .append(writing.text.as_slice(), lines, seal)
+            .is_ok();
         writing.text.clear();
         match &self.disk {
             Some(disk) => written && disk.sync(),
@@ -177,8 +209,8 @@ impl<W: Sink, D: Disk> Keeper<W, D> {
             return true;
         }
         let recorded = match self.hand_over(rt, &mut writing.text) {
-            Some(lines) if writing.book.is_whole() && lines >= count => {
-                self.write(&mut writing, lines).then_some(lines)
+            Some((lines, seal)) if lines >= count => {
+                self.write(&mut writing, lines, seal).then_some(lines)
             }
             _ => None,
         };
@@ -236,7 +268,7 @@ impl<'k, R: Wait, W: Sink, D: Disk> Recorder for Hold<'k, R, W, D> {
         self.whole
     }
 
-    fn add(&mut self, nth: u64, line: &[u8]) {
+    fn add(&mut self, nth: u64, line: &mut Vec<u8>) {
         let Some(keeper) = self.keeper else {
             return;
         };

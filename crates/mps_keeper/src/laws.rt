@@ -9,7 +9,10 @@ ghost use Rattle.mps_room.specs.Journal.{grown, answer_to, IsLegal, MayAnswer};
 ghost use Rattle.mps_room.specs.declared.entry.Entry.{Entry};
 ghost use Rattle.mps_base.specs.RoleLists.{AreDistinct};
 ghost use Rattle.mps_room.specs.declared.numbers.Numbered.{Numbered};
+ghost use Rattle.mps_keeper.specs.Chains.{ReadsAll};
+ghost use Rattle.mps_keeper.specs.declared.chain.Chain.{Chain};
 ghost use Rattle.mps_keeper.specs.Restarted.{newest_after};
+ghost use Rattle.mps_seal.specs.Seals.{all_sealed, seal_after};
 ghost use Rattle.mps_keeper.specs.Restored.{LinesRestored, Standing};
 ghost use Rattle.mps_keeper.specs.Trails.{RecordedOn, SpellEntries, WrittenIsRecorded};
 ghost use Rattle.mps_keeper.specs.declared.guest.Guest.{Guest as GuestOf};
@@ -26,6 +29,7 @@ use crate::recorder::{Recordable, Recorder};
 use crate::restore::MOST_BYTES;
 use mps_line::laws::one_journal_line;
 use mps_room::{Caller, MAX_ENTRIES};
+use mps_seal::laws::one_line;
 
 /// The commands of a legal journal, run again from the opening: after those before it each gets the answer that it
 /// had, and leaves the journal that it left, unless memory runs out.
@@ -78,6 +82,17 @@ pub fn a_restart_gives_the_journal_back()
         → after.newest ≡ newest_after newest numbers journal }
 {
     one_journal_line();
+}
+
+/// What a `Book` writes after the mark is read as the lines that it was given.
+pub fn sealed_lines_are_read()
+    ensures lines { (seal : List ℕ) (lines bodies : List (List ℕ)) (after : Chain)
+        → ReadsAll (record { seal = seal; is_sealed = true }) (all_sealed seal lines) bodies after → bodies ≡ lines }
+    ensures chain { (seal : List ℕ) (lines bodies : List (List ℕ)) (after : Chain)
+        → ReadsAll (record { seal = seal; is_sealed = true }) (all_sealed seal lines) bodies after
+        → after ≡ record { seal = seal_after seal lines; is_sealed = true } }
+{
+    one_line();
 }
 
 /// The lines of a journal with as many entries as a room has at most, each the longest that there is, are no more bytes

@@ -6,6 +6,7 @@
 #![tactic(auto)]
 
 pub mod book;
+mod chain;
 pub mod gate;
 pub mod guest;
 pub mod keeper;
@@ -14,8 +15,10 @@ mod recordable;
 pub mod recorder;
 pub mod restore;
 pub mod restored_room;
+mod sealing;
 
 pub use book::{Book, NotRecorded};
+pub use chain::Chain;
 pub use gate::{Gate, Unguarded};
 pub use guest::Guest;
 pub use keeper::{Disk, Hold, Keeper, LONGEST_LINE};

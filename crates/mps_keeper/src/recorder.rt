@@ -1,7 +1,6 @@
 //! What records lines, and callers whose commands can be recorded.
-ghost use Rattle.std.specs.Prelude.{◌≡◌, ℕ, Bool, true, false, List, [], Option};
-ghost use Rattle.std.specs.Io.KnownBytes.{Appends};
-ghost use Rattle.mps_keeper.specs.Books.{TookMore};
+ghost use Rattle.std.specs.Prelude.{◌≡◌, ◌∷◌, ℕ, Bool, true, false, List, [], Option};
+ghost use Rattle.mps_keeper.specs.Books.{Sealed, TookMore, TookSealed, bytes_of};
 
 use mps_base::Role;
 use mps_room::Caller;
@@ -11,8 +10,8 @@ pub trait Recorder {
     // Whether it records any.
     ghost records: { Self → Bool };
 
-    // The bytes that it took, where they are known.
-    ghost taken: { Self → Option (List ℕ) };
+    // What it took, where that is known.
+    ghost taken: { Self → Option Sealed };
 
     // Whether nothing was lost.
     ghost whole: { Self → Bool };
@@ -25,28 +24,28 @@ pub trait Recorder {
     fn is_whole(&self) -> bool
         ensures { result ≡ whole self.now };
 
-    /// Records the line, with its LF, of the journal's nth entry, from 1. Once lines were lost nothing more is taken. That
-    /// it is recorded after those of the entries before it no clause says.
-    fn add(&mut self, nth: u64, line: &[u8])
+    /// Records the line of the journal's nth entry, from 1, with its seal and an LF, which it may write at the line's end.
+    /// Once lines were lost nothing more is taken. That it is recorded after those of the entries before it no clause says.
+    fn add(&mut self, nth: u64, line: &mut Vec<u8>)
         ensures same { records self.new ≡ records self.old }
         ensures once { whole self.new ≡ true → whole self.old ≡ true }
-        ensures added { whole self.new ≡ true → Appends (taken self.old) (taken self.new) line.now }
-        ensures over { whole self.old ≡ false → Appends (taken self.old) (taken self.new) [] }
-        ensures more { TookMore (taken self.old) (taken self.new) };
+        ensures added { whole self.new ≡ true → TookSealed (taken self.old) (line.old.items ∷ []) (taken self.new) }
+        ensures over { whole self.old ≡ false → TookSealed (taken self.old) [] (taken self.new) }
+        ensures more { TookMore (bytes_of (taken self.old)) (bytes_of (taken self.new)) };
 
     /// Waits until so many lines are recorded.
     fn settle(&mut self, lines: u64)
         ensures same { records self.new ≡ records self.old }
         ensures once { whole self.new ≡ true → whole self.old ≡ true }
-        ensures settled { Appends (taken self.old) (taken self.new) [] }
-        ensures more { TookMore (taken self.old) (taken self.new) };
+        ensures settled { TookSealed (taken self.old) [] (taken self.new) }
+        ensures more { TookMore (bytes_of (taken self.old)) (bytes_of (taken self.new)) };
 
     /// Gives up the line that is next, and so all after it.
     fn lose(&mut self)
         ensures same { records self.new ≡ records self.old }
         ensures lost { whole self.new ≡ false }
-        ensures nothing { Appends (taken self.old) (taken self.new) [] }
-        ensures more { TookMore (taken self.old) (taken self.new) };
+        ensures nothing { TookSealed (taken self.old) [] (taken self.new) }
+        ensures more { TookMore (bytes_of (taken self.old)) (bytes_of (taken self.new)) };
 }
 
 /// A caller that knows its role, and how much of the journal its last call showed.

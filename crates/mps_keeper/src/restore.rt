@@ -1,10 +1,11 @@
 //! How a session is brought to where a recorded journal left it.
-ghost use Rattle.std.specs.Prelude.{◌≡◌, ◌≢◌, ◌+◌, length, ℕ, Err, Ok, true, None, IsTrue, false, ◌<◌, ◌^◌, ◌↔◌};
+ghost use Rattle.std.specs.Prelude.{◌≡◌, ◌≢◌, ◌+◌, length, ℕ, Err, Ok, true, None, IsTrue, false, ◌<◌, ◌≤◌, ◌^◌, ◌↔◌};
 ghost use Rattle.std.specs.Prelude.{IfOk, IfErr, OnOk, get_or};
 ghost use Rattle.mps_command.specs.declared.answer.Answer.TheVariants.{Refused as Denied};
 ghost use Rattle.mps_command.specs.declared.answer.Refusal.TheVariants as refusals;
 ghost use Rattle.mps_keeper.specs.Restored.{IsCalled, IsNext, IsRefused, LineRestored, kept_after, standing_of};
-ghost use Rattle.mps_keeper.specs.RestoredFaults.{of_reading, IsRestoredTo, IsFirstFault, IsFaulty, IsUncalled};
+ghost use Rattle.mps_keeper.specs.RestoredFaults.{of_reading, IsRestoredTo, IsFaultOf, IsFaulty, IsBodyFault, IsUncalled};
+ghost use Rattle.mps_keeper.specs.RestoredFaults.{IsNextRestored};
 ghost use Rattle.mps_keeper.specs.RestoredFaults.{FaultFrom, RestoredFrom};
 ghost use Rattle.mps_keeper.specs.RestoredFaults.{IsNoLine, ReadsMore};
 ghost use Rattle.mps_keeper.specs.declared.restore.RestoreFault.TheVariants.{Memory as OutOfMemory};
@@ -12,6 +13,7 @@ ghost use Rattle.mps_room.specs.Journal.{is_accepted};
 ghost use Rattle.mps_room.specs.Numbers.{newest_of};
 ghost use Rattle.std.specs.Io.KnownBytes.{Consumes, IsAtEnd};
 
+use crate::chain::{Chain, WrongSeal};
 use crate::guest::is_accepted;
 use crate::restored_room::RestoredRoom;
 use mps_base::Role;
@@ -20,6 +22,7 @@ use mps_dev::{MAX_READS, Source};
 use mps_line::{JournalLine, LineFault, read_journal_line};
 use mps_lines::line_end;
 use mps_room::Position;
+use mps_seal::Seal;
 use std::alloc::{AllocError, Global};
 use thiserror::Error;
 
@@ -37,6 +40,10 @@ pub enum RestoreFault {
     /// The command of the first line that was not restored, counted from 1, is not accepted.
     #[error("the command of line {line} isn't accepted")]
     Refused { line: u64 },
+    /// The first line that was not restored, counted from 1, doesn't end in its seal: it, or one before it, was changed; or
+    /// it has no LF, and isn't what a write that broke off may have left.
+    #[error("line {line} isn't as it was written")]
+    Changed { line: u64 },
 }
 
 impl From<AllocError> for RestoreFault {
@@ -53,11 +60,12 @@ pub const JOURNAL_BLOCK: usize = 65_536;
 /// Of a source with more bytes than these no more is read. A journal has fewer (`a_full_journal_is_read`).
 pub const MOST_BYTES: usize = 67_108_864;
 
-/// How many lines were restored, and how many bytes they have with their LFs.
-#[derive(Clone, Copy, Debug, PartialEq, Eq)]
+/// How many commands were restored, how many bytes the lines have with their LFs, and how they end.
+#[derive(Clone, Copy, Debug)]
 pub struct Restored {
     pub lines: u64,
     pub bytes: usize,
+    pub chain: Chain,
 }
 
 // Why that line can't be read.
@@ -134,13 +142,14 @@ impl RestoredRoom {
         }
     }
 
-    // Restores that line.
+    // Restores what that line says.
     fn restore_line(&mut self, alloc: Global, at: u64, line: &[u8]) -> Result<(), RestoreFault>
         ensures names { self.new.room.names ≡ self.old.room.names }
         ensures types { self.new.room.types ≡ self.old.room.types }
         ensures ok { OnOk result (LineRestored self.old.room.names self.old.room.types (standing_of self.old) line.now
             (standing_of self.new)) }
-        ensures faulty { IfErr result (IsFaulty self.old.room.names self.old.room.types (standing_of self.old) line.now at) }
+        ensures faulty { IfErr result
+            (IsBodyFault self.old.room.names self.old.room.types (standing_of self.old) line.now at) }
     {
         match read_journal_line(alloc, self.room.names(), line) {
             Ok(asked) => self.call(at, asked),
@@ -148,25 +157,65 @@ impl RestoredRoom {
         }
     }
 
-    /// Gives the command of each whole line to its role, in order. Each has to be accepted, and each number has to be the
-    /// next one of its role. A rest without LF is not looked at. After a fault the lines before it are restored.
-    pub fn restore_lines(&mut self, alloc: Global, bytes: &[u8]) -> Result<Restored, RestoreFault>
+    // Restores that line of a file, where the lines before it were read so. Says how many commands it has, one or none.
+    fn restore_next(
+        &mut self,
+        alloc: Global,
+        chain: &mut Chain,
+        at: u64,
+        line: &[u8],
+    ) -> Result<u64, RestoreFault>
+        ensures one { IfOk result (λ count. count ≤ 1) }
         ensures names { self.new.room.names ≡ self.old.room.names }
         ensures types { self.new.room.types ≡ self.old.room.types }
-        ensures ok { IfOk result (λ r. IsRestoredTo self.old.room.names self.old.room.types (standing_of self.old) bytes.now
-            (standing_of self.new) r.lines r.bytes) }
-        ensures err { IfErr result (IsFirstFault self.old.room.names self.old.room.types (standing_of self.old) bytes.now) }
+        ensures ok { IfOk result (IsNextRestored self.old.room.names self.old.room.types chain.old (standing_of self.old)
+            line.now chain.new (standing_of self.new)) }
+        ensures faulty { IfErr result (IsFaulty self.old.room.names self.old.room.types chain.old (standing_of self.old)
+            line.now at) }
     {
+        match chain.read(line) {
+            Ok(Some(body)) => {
+                self.restore_line(alloc, at, body)?;
+                Ok(1)
+            }
+            Ok(None) => Ok(0),
+            Err(WrongSeal) => Err(RestoreFault::Changed { line: at }),
+        }
+    }
+
+    /// Gives the command of each whole line to its role, in order, where this is the seal before the first. Each line has to
+    /// end in its seal, but for those before the mark; each command has to be accepted, and each number has to be the next
+    /// one of its role. A rest without LF has to be what a write that broke off may have left, and is not run. After a
+    /// fault the lines before it are restored.
+    pub fn restore_lines(
+        &mut self,
+        alloc: Global,
+        first: Seal,
+        bytes: &[u8],
+    ) -> Result<Restored, RestoreFault>
+        ensures names { self.new.room.names ≡ self.old.room.names }
+        ensures types { self.new.room.types ≡ self.old.room.types }
+        ensures ok { IfOk result (IsRestoredTo self.old.room.names self.old.room.types first (standing_of self.old)
+            bytes.now (standing_of self.new)) }
+        ensures err { IfErr result (IsFaultOf self.old.room.names self.old.room.types first (standing_of self.old)
+            bytes.now) }
+    {
+        let mut chain = Chain::new(first);
         let mut rest = bytes;
         let mut lines = 0;
+        let mut at = 0;
         while let Some(k) = line_end(rest) {
-            self.restore_line(alloc, lines + 1, &rest[..k])?;
-            lines += 1;
+            lines += self.restore_next(alloc, &mut chain, at + 1, &rest[..k])?;
+            at += 1;
             rest = &rest[k + 1..];
+        }
+        if !chain.is_torn(rest) {
+            return Err(RestoreFault::Changed { line: at + 1 });
         }
         Ok(Restored {
             lines,
             bytes: bytes.len() - rest.len(),
+            chain,
         })
     }
 
@@ -174,18 +223,19 @@ impl RestoredRoom {
     pub fn restore_from<R: Source>(
         &mut self,
         alloc: Global,
+        first: Seal,
         reader: &mut R,
     ) -> Result<Restored, RestoreFault>
         requires { R.calls reader.old < 2 ^ 62 }
         ensures names { self.new.room.names ≡ self.old.room.names }
         ensures types { self.new.room.types ≡ self.old.room.types }
-        ensures ok { IfOk result (λ r. RestoredFrom self.old.room.names self.old.room.types R.Source (standing_of self.old)
-            reader.old reader.new (standing_of self.new) r.lines r.bytes) }
-        ensures err { IfErr result (FaultFrom self.old.room.names self.old.room.types R.Source (standing_of self.old)
-            reader.old reader.new) }
+        ensures ok { IfOk result (RestoredFrom self.old.room.names self.old.room.types R.Source first
+            (standing_of self.old) reader.old reader.new (standing_of self.new)) }
+        ensures err { IfErr result (FaultFrom self.old.room.names self.old.room.types R.Source first
+            (standing_of self.old) reader.old reader.new) }
     {
         let all = read_all(alloc, reader)?;
-        self.restore_lines(alloc, all.as_slice())
+        self.restore_lines(alloc, first, all.as_slice())
     }
 }
 

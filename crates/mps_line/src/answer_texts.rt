@@ -18,21 +18,23 @@ pub fn answer_has_text(answer: &Answer) -> bool
     ensures always { IsTrue result }
     ensures text { (text : List ℕ) × SpellsReply text (Answered answer.now) }
 {
+    // for the proof alone
     answer_is_spellable(answer);
     true
 }
 
-// Whether a text says that the connection acts for the role of that name.
+// Whether the reply that joins this session by this name has a text, which each has. It does not allocate.
 pub(crate) fn pass_has_text(session: u64, name: &Name) -> bool
     ensures always { IsTrue result }
     ensures text { (text : List ℕ) × SpellsReply text (Joined session name.now) }
 {
+    // looked at for the proof alone: the bytes are a name's, the number is below 2^64
     let _name = name.as_bytes();
     let _session = session;
     true
 }
 
-// The parts of each answer have spellings.
+// A law: the parts of each answer have spellings.
 fn answer_is_spellable(answer: &Answer)
     ensures { AreSpellable (answer_tokens answer.now) }
 {
@@ -44,16 +46,18 @@ fn answer_is_spellable(answer: &Answer)
             ids_are_small(ids.as_slice());
         }
         Answer::Shown(text) => {
+            // looked at for the proof alone: they are a shown text's
             let _bytes = text.as_bytes();
         }
         Answer::Refused(refusal) => refusal_is_spellable(refusal),
     }
 }
 
-// The number of each step and the message that it took have spellings.
+// A law: the number of each step and the message that it took have spellings.
 fn done_is_spellable(done: &Done)
     ensures { AreSpellable (done_tokens done.now.id done.now.got) }
 {
+    // looked at for the proof alone: it is below 2^64
     let _number = done.id.number();
     match &done.got {
         Some(message) => message_is_spellable(message),
@@ -61,19 +65,20 @@ fn done_is_spellable(done: &Done)
     }
 }
 
-// Each message has a spelling.
+// A law: each message has a spelling.
 fn message_is_spellable(message: &Message)
     ensures { IsSpellable (message_token message.now) }
 {
     match message {
         Message::Value(value) => value_is_spellable(value),
         Message::Label(label) => {
+            // looked at for the proof alone: they are a name's
             let _bytes = label.as_bytes();
         }
     }
 }
 
-// Each value has a spelling.
+// A law: each value has a spelling.
 #[tactic(auto, using(crate::proofs::Spellings::text))]
 fn value_is_spellable(value: &Value)
     ensures { IsSpellable (Worth value.now) }
@@ -82,20 +87,22 @@ fn value_is_spellable(value: &Value)
         Value::Int(number) => int_is_spellable(*number),
         Value::Bool(_) => {}
         Value::Text(text) => {
+            // looked at for the proof alone: they are a text's
             let _bytes = text.as_bytes();
         }
     }
 }
 
-// Each integer of 64 bits has a spelling.
+// A law: each integer of 64 bits has a spelling.
 #[tactic(auto, using(crate::proofs::Spellings::int))]
 fn int_is_spellable(number: i64)
     ensures { IsSpellable (Worth (values.Int number)) }
 {
+    // looked at for the proof alone: it is in range
     let _number = number;
 }
 
-// The parts of each refusal have spellings.
+// A law: the parts of each refusal have spellings. The numbers are looked at for the proof alone.
 fn refusal_is_spellable(refusal: &Refusal)
     ensures { AreSpellable (answer_tokens (Refused refusal.now)) }
 {
@@ -110,18 +117,20 @@ fn refusal_is_spellable(refusal: &Refusal)
     }
 }
 
-// A count is below 2^64.
+// A law: a count is below 2^64.
 fn count_is_small(count: u64)
     ensures { count < 2 ^ 64 }
 {
+    // looked at for the proof alone
     let _count = count;
 }
 
-// And so is the number of each step.
+// A law: the number of each step is below 2^64.
 fn ids_are_small(ids: &[StepId])
     ensures { AllByRecursion (λ n. n < 2 ^ 64) ids.now }
 {
     for id in ids {
+        // looked at for the proof alone
         let _number = id.number();
     }
 }

@@ -4,7 +4,7 @@ ghost use Rattle.std.specs.Io.{StartsWith};
 ghost use Rattle.mps_base.specs.Appends.{AppendsSuch};
 ghost use Rattle.mps_command.specs.declared.command.Command.{Command as Asked};
 ghost use Rattle.mps_line.specs.JournalLines.{SpellsJournalLine, CanBeWritten};
-ghost use Rattle.mps_line.specs.Commands.{role_named, SpellsNumbered, MayHaveNumber, NamesRolesOf};
+ghost use Rattle.mps_line.specs.Commands.{NamesRolesOf};
 
 use crate::line_parts::{read_role, split_at_space, write_count, write_role};
 use crate::read_commands::LineFault;
@@ -22,37 +22,31 @@ pub struct JournalLine {
     pub command: Command,
 }
 
-// The role that the command names, if it names one.
-fn role_named(command: &Command) -> Option<Role>
-    ensures { result ≡ role_named command.now }
-{
-    match command {
-        Command::Forward(Forward::Send { to, .. }) => Some(*to),
-        Command::Forward(Forward::Choose { to, .. }) => Some(*to),
-        Command::Forward(Forward::Receive { from, .. }) => Some(*from),
-        Command::Forward(Forward::Pick { from }) => Some(*from),
-        _ => None,
-    }
-}
-
-// Whether the command names no role but these.
+// Whether the role that the command names, if it names one, is one of these.
 fn names_roles(roles: &Roles, command: &Command) -> bool
     ensures { IsTrue result ↔ NamesRolesOf roles.now command.now }
 {
-    match role_named(command) {
-        Some(role) => role.index() < roles.count(),
-        None => true,
+    match command {
+        Command::Forward(
+            Forward::Send { to: peer, .. }
+            | Forward::Choose { to: peer, .. }
+            | Forward::Receive { from: peer, .. }
+            | Forward::Pick { from: peer },
+        ) => peer.index() < roles.count(),
+        _ => true,
     }
 }
 
-/// Whether the role's command has a line.
+/// Whether the role's command has a line in a journal: the role, and the one that the command names, are among these,
+/// and it asks for a change.
 pub fn has_journal_line(roles: &Roles, role: Role, command: &Command) -> bool
     ensures { IsTrue result ↔ CanBeWritten roles.now role command.now }
 {
     role.index() < roles.count() && asks_for_change(command) && names_roles(roles, command)
 }
 
-/// Writes the line of a role's command at the end, without a line break.
+/// Writes the line of a role's command at the end of `out`, without a line break. Where memory runs out, nothing of it
+/// is left there.
 pub fn write_journal_line(
     roles: &Roles,
     role: Role,
@@ -73,7 +67,7 @@ pub fn write_journal_line(
     written
 }
 
-// Writes the line, or a part of it.
+// Writes the line of a role's command at the end of `out`, or a part of it where memory runs out.
 fn write_parts(
     roles: &Roles,
     role: Role,
@@ -88,33 +82,15 @@ fn write_parts(
 {
     write_role(roles, role, out)?;
     out.push(b' ')?;
-    write_numbered(roles, number, command, out)
-}
-
-// Writes the number, if there is one, and the command, or a part of them.
-fn write_numbered(
-    roles: &Roles,
-    number: Option<u64>,
-    command: &Command,
-    out: &mut Vec<u8>,
-) -> Result<(), AllocError>
-    requires named { NamesRolesOf roles.now command.now }
-    requires asks { MayHaveNumber command.now }
-    ensures ok { OnOk result (AppendsSuch
-        (λ text. SpellsNumbered roles.now text number command.now) out.old.items out.new.items) }
-    ensures err { OnErr result (StartsWith out.new.items out.old.items) }
-{
-    match number {
-        Some(n) => {
-            write_count(n, out)?;
-            out.push(b' ')?;
-            push_command(roles, command, out)
-        }
-        None => push_command(roles, command, out),
+    if let Some(n) = number {
+        write_count(n, out)?;
+        out.push(b' ')?;
     }
+    push_command(roles, command, out)
 }
 
-/// Reads a line that takes all of the bytes.
+/// Reads a journal's line, which takes all of the bytes: a role's name, a number if there is one, and a command that
+/// asks for a change. Bytes that spell none are `Bad`.
 pub fn read_journal_line(
     alloc: Global,
     roles: &Roles,

@@ -24,6 +24,7 @@ pub fn one_command()
     ensures shown { (names : List (List ℕ)) (a : List ℕ) (c : Command)
         → SpellsCommand names a c → AllByRecursion IsShown a }
 {
+    // for the proof alone
     one_spelling();
 }
 
@@ -39,6 +40,7 @@ pub fn one_script_line()
     ensures shown { (names : List (List ℕ)) (a : List ℕ) (p : ℕ) (c : Command)
         → SpellsScriptLine names a p c → AllByRecursion IsShown a }
 {
+    // for the proof alone
     one_spelling();
 }
 
@@ -56,6 +58,7 @@ pub fn one_numbered()
     ensures shown { (names : List (List ℕ)) (a : List ℕ) (n : Option ℕ) (c : Command)
         → SpellsNumbered names a n c → AllByRecursion IsShown a }
 {
+    // for the proof alone
     one_spelling();
 }
 
@@ -70,6 +73,7 @@ pub fn one_reply_line()
         → AllByRecursion (λ c. c ≢ 10) a }
     ensures refusal { (a : List ℕ) (r : Reply) → SpellsReply a r → IsTrue (is_refusal a) ↔ code_of r ≢ 0 }
 {
+    // for the proof alone
     one_spelling();
 }
 
@@ -90,5 +94,6 @@ pub fn one_journal_line()
     ensures script { (names : List (List ℕ)) (a : List ℕ) (p : ℕ) (c : Command)
         → SpellsJournalLine names a p None c → SpellsScriptLine names a p c }
 {
+    // for the proof alone
     one_numbered();
 }

@@ -31,6 +31,7 @@ pub enum LineFault {
 impl From<AllocError> for LineFault {
     ghost from_gives = { λ _ e. e ≡ OutOfMemory };
 
+    // A failed allocation is `Memory`.
     fn from(_e: AllocError) -> LineFault {
         LineFault::Memory
     }
@@ -39,6 +40,7 @@ impl From<AllocError> for LineFault {
 impl<T: Drop> From<AllocFailed<T>> for LineFault {
     ghost from_gives = { λ _ e. e ≡ OutOfMemory };
 
+    // A failed allocation is `Memory`; what it gives back is dropped.
     fn from(_e: AllocFailed<T>) -> LineFault {
         LineFault::Memory
     }
@@ -60,7 +62,8 @@ pub enum Verb {
     Show,
 }
 
-/// Reads a line of a script: a role's name and its command.
+/// Reads a line of a script, which takes all of the bytes: a role's name and its command. Bytes that spell no line are
+/// `Bad`.
 pub fn read_script_line(
     alloc: Global,
     roles: &Roles,
@@ -82,7 +85,7 @@ pub fn read_script_line(
     Ok((role, command))
 }
 
-/// Reads a command that takes all of the bytes.
+/// Reads a command, which takes all of the bytes. Bytes that spell none are `Bad`.
 pub fn read_command(alloc: Global, roles: &Roles, bytes: &[u8]) -> Result<Command, LineFault>
     ensures read { IfOk result (SpellsCommand roles.now bytes.now) }
     ensures bad { IsErrOf result LineFault.Bad → (command : Command)
@@ -92,6 +95,7 @@ pub fn read_command(alloc: Global, roles: &Roles, bytes: &[u8]) -> Result<Comman
     ensures memory { IsErrOf result LineFault.Memory → (to : ℕ) × (text : List ℕ)
         × SpellsCommand roles.now bytes.now (commands.Forward (steps.Send to (values.Text text))) }
 {
+    // without a verb and a space the whole can only be one of the verbs that take no arguments
     let Some((verb, rest)) = split_verb(bytes) else {
         return match lone_command(bytes) {
             Some(command) => Ok(command),
@@ -101,7 +105,7 @@ pub fn read_command(alloc: Global, roles: &Roles, bytes: &[u8]) -> Result<Comman
     read_arguments(alloc, roles, verb, rest)
 }
 
-// The command of that verb, after which nothing stands.
+// The command whose verb takes no arguments and is all of the bytes, if there is one.
 fn lone_command(verb: &[u8]) -> Option<Command>
     ensures read { IfSome result (λ command. verb.now ≡ verb_word (verb_of command)) }
     ensures alone { IfSome result (λ command. arguments command ≡ []) }
@@ -115,7 +119,8 @@ fn lone_command(verb: &[u8]) -> Option<Command>
 }
 
 // The verb, and what stands after it and a space. A verb that takes no arguments is found too, so that no verb is
-// missed; `read_argument` refuses it.
+// missed; `read_argument` refuses it. `send` and `recv` are matched whole, the others by their words: to match all
+// whole takes more instructions in each line.
 fn split_verb(bytes: &[u8]) -> Option<(Verb, &[u8])>
     ensures read { IfSome result (λ r. bytes.now ≡ spaced (verb_word r.0 ∷ r.1.now ∷ [])) }
     ensures none { IfNone result ((verb : Verb) (rest : List ℕ)
@@ -137,7 +142,8 @@ fn split_verb(bytes: &[u8]) -> Option<(Verb, &[u8])>
     }
 }
 
-// The command of that verb with these arguments, of which there is one at least.
+// Reads the arguments of a verb, of which there is one at least, and makes the command. Only a text that is sent takes
+// memory.
 fn read_arguments(
     alloc: Global,
     roles: &Roles,
@@ -173,7 +179,8 @@ fn read_arguments(
     }
 }
 
-// The command of any other verb, which takes one argument. A commit and a show take none, so no command is read.
+// Reads the argument of a verb that takes one, and makes the command. A commit and a show take none, so no command is
+// read.
 fn read_argument(roles: &Roles, verb: Verb, bytes: &[u8]) -> Option<Command>
     requires send { verb ≢ Verb.Send }
     requires choose { verb ≢ Verb.Choose }
@@ -199,7 +206,7 @@ fn read_argument(roles: &Roles, verb: Verb, bytes: &[u8]) -> Option<Command>
     }
 }
 
-// The peer and the name of a label or a slot.
+// Reads a role's name and, after a space, the name of a label or a slot.
 #[inline(always)]
 fn read_role_and_name(roles: &Roles, bytes: &[u8]) -> Result<(Role, Name), LineFault>
     ensures read { IfOk result
@@ -218,7 +225,7 @@ fn read_role_and_name(roles: &Roles, bytes: &[u8]) -> Result<(Role, Name), LineF
     }
 }
 
-// The peer and the value that is to be sent.
+// Reads a role's name and, after a space, the value that is to be sent. Only a text takes memory.
 fn read_role_and_value(
     alloc: Global,
     roles: &Roles,

@@ -12,8 +12,8 @@ use mps_base::Roles;
 use mps_command::Command;
 use std::alloc::Global;
 
-/// Reads a line of a conversation: a command, or a number and a command that asks for a change. Whoever lost an answer
-/// sends the same line with the same number again.
+/// Reads a line of a conversation: a command, or a number and a command that asks for a change. A number before a
+/// question is `Bad`. Whoever lost an answer sends the same line with the same number again.
 pub fn read_numbered(
     alloc: Global,
     roles: &Roles,

@@ -16,7 +16,7 @@ use crate::read_commands::LineFault;
 use crate::write_replies::Reply;
 use mps_command::{Answer, Refusal, Violation};
 
-// `refused` and why.
+// Reads a reply that begins with `refused`: the refusal of a command, or that of a line, a connection or a number.
 #[tactic(auto, using(crate::proofs::ReplyLines::own_line))]
 pub(crate) fn refused_reply(bytes: &[u8]) -> Result<Reply, LineFault>
     ensures read { IfOk result (SpellsReply bytes.now) }
@@ -41,7 +41,7 @@ pub(crate) fn refused_reply(bytes: &[u8]) -> Result<Reply, LineFault>
     }
 }
 
-// The reply that no command has, of that word.
+// The reply of that word after `refused` which isn't the refusal of a command, if there is one.
 fn own_reply(word: &[u8]) -> Option<Reply>
     ensures read { IfSome result (λ reply. word.now ≡ own_word reply) }
     ensures some { IfSome result (λ reply. 0 < length (own_word reply)) }
@@ -57,7 +57,7 @@ fn own_reply(word: &[u8]) -> Option<Reply>
     }
 }
 
-// The refusal of that word, with its step after `final` or `needed`.
+// Reads why a command is refused: its word, and after `final` or `needed` the number of a step.
 fn read_refusal(bytes: &[u8]) -> Option<Refusal>
     ensures read { IfSome result (λ refusal. SpellsLine [] bytes.now (refusal_tokens refusal)) }
     ensures none { IfNone result ((refusal : Refusal)
@@ -81,7 +81,7 @@ fn read_refusal(bytes: &[u8]) -> Option<Refusal>
     }
 }
 
-// The refusal of that word, after which no step stands.
+// The refusal of that word, where it is no violation and no step's number follows it.
 fn lone_refusal(word: &[u8]) -> Option<Refusal>
     ensures read { IfSome result (λ refusal. word.now ≡ word_of refusal) }
     ensures alone { IfSome result (λ refusal. refusal_tokens refusal ≡ Word (word_of refusal) ∷ []) }
@@ -97,7 +97,7 @@ fn lone_refusal(word: &[u8]) -> Option<Refusal>
     }
 }
 
-// What a role's type doesn't allow, of that word.
+// The violation of that word, if it is the word of one.
 fn read_violation(word: &[u8]) -> Option<Violation>
     ensures read { IfSome result (λ violation. word.now ≡ word_of (Violates violation)) }
     ensures none { IfNone result ((violation : Violation)

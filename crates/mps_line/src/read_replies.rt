@@ -57,7 +57,7 @@ pub fn read_join(bytes: &[u8]) -> Result<(u64, Name), LineFault>
     }
 }
 
-// The number and the name after it.
+// Reads a number and, after a space, a name.
 fn read_number_and_name(bytes: &[u8]) -> Option<(u64, Name)>
     ensures read { IfSome result (λ r. SpellsLine [] bytes.now (Number r.0 ∷ Called r.1 ∷ [])) }
     ensures none { IfNone result ((n : ℕ) (name : List ℕ)
@@ -69,7 +69,7 @@ fn read_number_and_name(bytes: &[u8]) -> Option<(u64, Name)>
     Some((number, name))
 }
 
-// `joined` with a session's number and a role's name.
+// Reads `joined` with a session's number and a role's name.
 fn joined_reply(bytes: &[u8]) -> Result<Reply, LineFault>
     ensures read { IfOk result (SpellsReply bytes.now) }
     ensures bad { IsErrOf result LineFault.Bad → (session : ℕ) (name : List ℕ)
@@ -86,7 +86,7 @@ fn joined_reply(bytes: &[u8]) -> Result<Reply, LineFault>
     Ok(Reply::Joined { session, name })
 }
 
-// The text of a shown session.
+// Reads the text of a shown session. It is looked at before memory is asked for.
 fn shown_reply(alloc: Global, bytes: &[u8]) -> Result<Reply, LineFault>
     ensures read { IfOk result (SpellsReply bytes.now) }
     ensures bad { IsErrOf result LineFault.Bad → (text : List ℕ)
@@ -109,14 +109,14 @@ fn is_shown_text(bytes: &[u8]) -> bool
     bytes.first() == Some(&b'{') && bytes.iter().all(|&byte| is_shown(byte))
 }
 
-// Whether the byte stands for a character that is shown.
+// Whether the byte stands for a character that is shown: from the space to `~`.
 fn is_shown(byte: u8) -> bool
     ensures { IsTrue result ↔ IsShown byte }
 {
     (b' '..=b'~').contains(&byte)
 }
 
-// `done` with the number of a step, and what it took.
+// Reads `done` with the number of a step, and what the step took, if it took something.
 fn done_reply(alloc: Global, bytes: &[u8]) -> Result<Reply, LineFault>
     ensures read { IfOk result (SpellsReply bytes.now) }
     ensures bad { IsErrOf result LineFault.Bad → (done : Done)
@@ -130,7 +130,7 @@ fn done_reply(alloc: Global, bytes: &[u8]) -> Result<Reply, LineFault>
     Ok(Reply::Answer(Answer::Done(done)))
 }
 
-// The step of that number, and after it the message that it took, if there is one.
+// Reads the number of a step, and after a space the message that the step took, if there is a space.
 fn read_done(alloc: Global, bytes: &[u8]) -> Result<Done, LineFault>
     ensures read { IfOk result (λ done. SpellsLine [] bytes.now (done_tokens done.id done.got)) }
     ensures bad { IsErrOf result LineFault.Bad → (done : Done)
@@ -154,7 +154,7 @@ fn read_done(alloc: Global, bytes: &[u8]) -> Result<Done, LineFault>
     })
 }
 
-// The value or the label.
+// Reads a message: a label or a value, of which no bytes spell both.
 fn read_message(alloc: Global, bytes: &[u8]) -> Result<Message, LineFault>
     ensures read { IfOk result (λ message. SpellsToken [] bytes.now (message_token message)) }
     ensures bad { IsErrOf result LineFault.Bad → (message : Message)
@@ -172,7 +172,7 @@ fn read_message(alloc: Global, bytes: &[u8]) -> Result<Message, LineFault>
     }
 }
 
-// `undone` with the numbers of some steps, or of none.
+// Reads `undone` with the numbers of some steps, or of none.
 fn undone_reply(alloc: Global, bytes: &[u8]) -> Result<Reply, LineFault>
     ensures read { IfOk result (SpellsReply bytes.now) }
     ensures bad { IsErrOf result LineFault.Bad → (ids : List ℕ)
@@ -189,7 +189,7 @@ fn undone_reply(alloc: Global, bytes: &[u8]) -> Result<Reply, LineFault>
     Ok(Reply::Answer(Answer::Undone(StepIds::of(ids))))
 }
 
-// `news` with the length of the journal, and the numbers of some steps, or of none.
+// Reads `news` with the length of the journal, and the numbers of some steps, or of none.
 fn news_reply(alloc: Global, bytes: &[u8]) -> Result<Reply, LineFault>
     ensures read { IfOk result (SpellsReply bytes.now) }
     ensures bad { IsErrOf result LineFault.Bad → (n : ℕ) (ids : List ℕ)
@@ -212,7 +212,7 @@ fn news_reply(alloc: Global, bytes: &[u8]) -> Result<Reply, LineFault>
     Ok(news_of(length, ids))
 }
 
-// The news of so long a journal, and of these steps.
+// The reply with the news: the length of the journal, and the numbers of these steps.
 fn news_of(length: u64, ids: Vec<StepId>) -> Reply
     ensures { result ≡ Answered (News length ids.items) }
 {
@@ -222,8 +222,8 @@ fn news_of(length: u64, ids: Vec<StepId>) -> Reply
     })
 }
 
-// The steps of these numbers, of which there is one at least. Memory is taken once it is known that
-// there are no others.
+// Reads the numbers of steps with a space between two, of one step at least. All are looked at before memory is asked
+// for, so bytes that spell none are `Bad` whatever memory there is.
 fn read_steps(alloc: Global, bytes: &[u8]) -> Result<Vec<StepId>, LineFault>
     ensures read { IfOk result (λ ids. SpellsSteps bytes.now ids.items) }
     ensures bad { IsErrOf result LineFault.Bad → (ids : List ℕ) → SpellsSteps bytes.now ids → ⊥ }
@@ -235,6 +235,7 @@ fn read_steps(alloc: Global, bytes: &[u8]) -> Result<Vec<StepId>, LineFault>
     let mut ids = Vec::new(alloc);
     let mut rest = bytes;
     while let Some(parts) = split_at_space(rest) {
+        // read once more, so this never fails
         let Some(id) = read_step(parts.0) else {
             return Err(LineFault::Bad);
         };
@@ -248,7 +249,7 @@ fn read_steps(alloc: Global, bytes: &[u8]) -> Result<Vec<StepId>, LineFault>
     Ok(ids)
 }
 
-// Whether these are the numbers of some steps, of one at least.
+// Whether the bytes are the numbers of steps with a space between two, of one step at least.
 fn are_steps(bytes: &[u8]) -> bool
     ensures yes { IsTrue result → (ids : List ℕ) × SpellsSteps bytes.now ids }
     ensures no { IsFalse result → (ids : List ℕ) → SpellsSteps bytes.now ids → ⊥ }

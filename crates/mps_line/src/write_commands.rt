@@ -8,12 +8,11 @@ ghost use Rattle.mps_line.specs.Commands.{verb_word, verb_of, arguments, SpellsC
 ghost use Rattle.mps_line.specs.Private.Commands.{TakesArguments};
 
 use crate::line_parts::{write_count, write_name, write_role, write_step};
-use crate::read_commands::Verb;
 use mps_base::Roles;
 use mps_command::{Command, Forward};
 use std::alloc::{AllocError, Global};
 
-/// The line of the command, without a line break.
+/// The line of the command in a buffer of its own, without a line break.
 pub fn write_command(alloc: Global, roles: &Roles, command: &Command) -> Result<Vec<u8>, AllocError>
     requires known { NamesRolesOf roles.now command.now }
     ensures { IfOk result (λ line. SpellsCommand roles.now line.items command.now) }
@@ -23,7 +22,7 @@ pub fn write_command(alloc: Global, roles: &Roles, command: &Command) -> Result<
     Ok(line)
 }
 
-/// Writes the command at the end, without a line break.
+/// Writes the command at the end of `out`, without a line break. Where memory runs out, nothing of it is left there.
 pub fn append_command(roles: &Roles, command: &Command, out: &mut Vec<u8>) -> Result<(), AllocError>
     requires known { NamesRolesOf roles.now command.now }
     ensures ok { OnOk result (AppendsSuch
@@ -38,7 +37,7 @@ pub fn append_command(roles: &Roles, command: &Command, out: &mut Vec<u8>) -> Re
     written
 }
 
-/// Writes the command at the end, or a part of it where memory runs out.
+/// Writes the command at the end of `out`, or a part of it where memory runs out.
 pub(crate) fn push_command(
     roles: &Roles,
     command: &Command,
@@ -49,7 +48,7 @@ pub(crate) fn push_command(
         (λ text. SpellsCommand roles.now text command.now) out.old.items out.new.items) }
     ensures err { OnErr result (StartsWith out.new.items out.old.items) }
 {
-    out.extend_from_slice(verb_word(verb_of(command)))?;
+    out.extend_from_slice(verb_word(command))?;
     if !takes_arguments(command) {
         return Ok(());
     }
@@ -57,7 +56,7 @@ pub(crate) fn push_command(
     write_arguments(roles, command, out)
 }
 
-// Writes what stands after the verb, or a part of it.
+// Writes what stands after the verb and a space at the end of `out`, or a part of it where memory runs out.
 fn write_arguments(roles: &Roles, command: &Command, out: &mut Vec<u8>) -> Result<(), AllocError>
     requires known { NamesRolesOf roles.now command.now }
     ensures ok { OnOk result (AppendsSuch
@@ -74,7 +73,7 @@ fn write_arguments(roles: &Roles, command: &Command, out: &mut Vec<u8>) -> Resul
     }
 }
 
-// Writes what stands after the verb of the step that a role wants to take, or a part of it.
+// Writes what stands after the verb of a step and a space at the end of `out`, or a part of it where memory runs out.
 fn write_forward(roles: &Roles, step: &Forward, out: &mut Vec<u8>) -> Result<(), AllocError>
     requires known { NamesRolesOf roles.now (commands.Forward step.now) }
     ensures ok { OnOk result (AppendsSuch
@@ -104,7 +103,7 @@ fn write_forward(roles: &Roles, step: &Forward, out: &mut Vec<u8>) -> Result<(),
     }
 }
 
-// Whether something stands after the verb.
+// Whether something stands after the verb of the command.
 fn takes_arguments(command: &Command) -> bool
     ensures { IsTrue result ↔ TakesArguments command.now }
 {
@@ -119,40 +118,21 @@ fn takes_arguments(command: &Command) -> bool
     }
 }
 
-// The verb of the command.
-fn verb_of(command: &Command) -> Verb
-    ensures { result ≡ verb_of command.now }
+// The first word of the command.
+fn verb_word(command: &Command) -> &'static [u8]
+    ensures { result.now ≡ verb_word (verb_of command.now) }
 {
     match command {
-        Command::Forward(Forward::Send { .. }) => Verb::Send,
-        Command::Forward(Forward::Choose { .. }) => Verb::Choose,
-        Command::Forward(Forward::Receive { .. }) => Verb::Receive,
-        Command::Forward(Forward::Pick { .. }) => Verb::Pick,
-        Command::Forward(Forward::Mark { .. }) => Verb::Mark,
-        Command::Forward(Forward::Commit) => Verb::Commit,
-        Command::Undo(_) => Verb::Undo,
-        Command::Rollback(_) => Verb::Rollback,
-        Command::Back(_) => Verb::Back,
-        Command::News(_) => Verb::News,
-        Command::Show => Verb::Show,
-    }
-}
-
-// The first word of such a command.
-fn verb_word(verb: Verb) -> &'static [u8]
-    ensures { result.now ≡ verb_word verb }
-{
-    match verb {
-        Verb::Send => b"send",
-        Verb::Choose => b"choose",
-        Verb::Receive => b"recv",
-        Verb::Pick => b"pick",
-        Verb::Mark => b"mark",
-        Verb::Commit => b"commit",
-        Verb::Undo => b"undo",
-        Verb::Rollback => b"rollback",
-        Verb::Back => b"back",
-        Verb::News => b"news",
-        Verb::Show => b"show",
+        Command::Forward(Forward::Send { .. }) => b"send",
+        Command::Forward(Forward::Choose { .. }) => b"choose",
+        Command::Forward(Forward::Receive { .. }) => b"recv",
+        Command::Forward(Forward::Pick { .. }) => b"pick",
+        Command::Forward(Forward::Mark { .. }) => b"mark",
+        Command::Forward(Forward::Commit) => b"commit",
+        Command::Undo(_) => b"undo",
+        Command::Rollback(_) => b"rollback",
+        Command::Back(_) => b"back",
+        Command::News(_) => b"news",
+        Command::Show => b"show",
     }
 }

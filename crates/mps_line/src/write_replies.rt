@@ -67,7 +67,7 @@ impl Reply {
         }
     }
 
-    /// Writes the reply at the end, without a line break.
+    /// Writes the reply at the end of `out`, without a line break. Where memory runs out, nothing of it is left there.
     pub fn write(&self, out: &mut Vec<u8>) -> Result<(), AllocError>
         ensures ok { OnOk result
             (AppendsSuch (λ text. SpellsReply text self.now) out.old.items out.new.items) }
@@ -81,7 +81,7 @@ impl Reply {
         written
     }
 
-    // Writes the reply, or a part of it.
+    // Writes the reply at the end of `out`, or a part of it where memory runs out.
     fn write_parts(&self, out: &mut Vec<u8>) -> Result<(), AllocError>
         ensures ok { OnOk result
             (AppendsSuch (λ text. SpellsReply text self.now) out.old.items out.new.items) }
@@ -99,7 +99,7 @@ impl Reply {
     }
 }
 
-/// Writes that a line is unreadable, at the end, without a line break.
+/// Writes that a line is unreadable at the end of `out`, without a line break.
 pub fn write_bad_line(out: &mut Vec<u8>) -> Result<(), AllocError>
     ensures ok { OnOk result
         (AppendsSuch (λ text. SpellsReply text BadLine) out.old.items out.new.items) }
@@ -108,7 +108,8 @@ pub fn write_bad_line(out: &mut Vec<u8>) -> Result<(), AllocError>
     out.extend_from_slice(b"refused line")
 }
 
-// Writes the session's number and the role's name, or a part of it.
+// Writes `joined`, the session's number and the role's name at the end of `out`, or a part of them where memory runs
+// out.
 fn write_joined(session: u64, name: &Name, out: &mut Vec<u8>) -> Result<(), AllocError>
     ensures ok { OnOk result (AppendsSuch
         (λ text. SpellsReply text (Joined session name.now)) out.old.items out.new.items) }
@@ -120,7 +121,7 @@ fn write_joined(session: u64, name: &Name, out: &mut Vec<u8>) -> Result<(), Allo
     write_name(name, out)
 }
 
-/// The line of the reply, without a line break.
+/// The line of the reply in a buffer of its own, without a line break.
 pub fn write_answer(alloc: Global, reply: &Reply) -> Result<Vec<u8>, AllocError>
     ensures { IfOk result (λ line. SpellsReply line.items reply.now) }
 {
@@ -129,7 +130,7 @@ pub fn write_answer(alloc: Global, reply: &Reply) -> Result<Vec<u8>, AllocError>
     Ok(line)
 }
 
-/// The line of an answer that is kept for its number, without a line break: that of its reply.
+/// The line of an answer that is kept for its number, in a buffer of its own, without a line break: that of its reply.
 pub fn write_kept(alloc: Global, answer: &Answer) -> Result<Vec<u8>, AllocError>
     ensures { IfOk result (λ line. SpellsReply line.items (Answered answer.now)) }
 {
@@ -138,7 +139,7 @@ pub fn write_kept(alloc: Global, answer: &Answer) -> Result<Vec<u8>, AllocError>
     Ok(line)
 }
 
-/// Writes the answer at the end, without a line break. Where memory runs out, a part of it may stand there.
+/// Writes the answer at the end of `out`, without a line break. Where memory runs out, a part of it may stand there.
 #[inline(always)]
 pub fn append_answer(answer: &Answer, out: &mut Vec<u8>) -> Result<(), AllocError>
     ensures ok { OnOk result (AppendsSuch
@@ -157,8 +158,8 @@ pub fn append_answer(answer: &Answer, out: &mut Vec<u8>) -> Result<(), AllocErro
     }
 }
 
-/// Writes that a command is refused, at the end, without a line break: what `append_answer` writes of such an answer.
-/// Where memory runs out, a part of it may stand there.
+/// Writes that a command is refused at the end of `out`, without a line break: what `append_answer` writes of such an
+/// answer. Where memory runs out, a part of it may stand there.
 pub fn write_refused(refusal: &Refusal, out: &mut Vec<u8>) -> Result<(), AllocError>
     ensures ok { OnOk result (AppendsSuch
         (λ text. SpellsReply text (Answered (Refused refusal.now))) out.old.items out.new.items) }
@@ -182,7 +183,7 @@ pub fn write_refused(refusal: &Refusal, out: &mut Vec<u8>) -> Result<(), AllocEr
     }
 }
 
-// Writes that a role's type doesn't allow the command, or nothing.
+// Writes that a role's type doesn't allow the command at the end of `out`, or nothing where memory runs out.
 fn write_violation(violation: Violation, out: &mut Vec<u8>) -> Result<(), AllocError>
     ensures ok { OnOk result (AppendsSuch
         (λ text. SpellsReply text (Answered (Refused (Violates violation)))) out.old.items out.new.items) }
@@ -199,7 +200,8 @@ fn write_violation(violation: Violation, out: &mut Vec<u8>) -> Result<(), AllocE
     }
 }
 
-// Writes the number of the step and the message that it took, or a part of them.
+// Writes the number of the step and the message that it took at the end of `out`, or a part of them where memory runs
+// out.
 #[inline(always)]
 fn write_done(done: &Done, out: &mut Vec<u8>) -> Result<(), AllocError>
     ensures ok { OnOk result (AppendsSuch
@@ -217,7 +219,7 @@ fn write_done(done: &Done, out: &mut Vec<u8>) -> Result<(), AllocError>
     }
 }
 
-// Writes the message, or a part of it.
+// Writes the message at the end of `out`, or a part of it where memory runs out.
 fn write_message(message: &Message, out: &mut Vec<u8>) -> Result<(), AllocError>
     ensures ok { OnOk result (AppendsSuch
         (λ text. SpellsToken [] text (message_token message.now)) out.old.items out.new.items) }
@@ -229,7 +231,7 @@ fn write_message(message: &Message, out: &mut Vec<u8>) -> Result<(), AllocError>
     }
 }
 
-// Writes the word and the numbers of the steps, or a part of them.
+// Writes `undone` and the numbers of the steps at the end of `out`, or a part of them where memory runs out.
 fn write_undone(ids: &[StepId], out: &mut Vec<u8>) -> Result<(), AllocError>
     ensures ok { OnOk result (AppendsSuch
         (λ text. SpellsLine [] text (undone_tokens ids.now)) out.old.items out.new.items) }
@@ -239,7 +241,8 @@ fn write_undone(ids: &[StepId], out: &mut Vec<u8>) -> Result<(), AllocError>
     write_ids(ids, out)
 }
 
-// Writes the word, the length of the journal and the numbers of the steps, or a part of them.
+// Writes `news`, the length of the journal and the numbers of the steps at the end of `out`, or a part of them where
+// memory runs out.
 fn write_news(length: u64, ids: &[StepId], out: &mut Vec<u8>) -> Result<(), AllocError>
     ensures ok { OnOk result (AppendsSuch
         (λ text. SpellsLine [] text (news_tokens length ids.now)) out.old.items out.new.items) }
@@ -250,7 +253,7 @@ fn write_news(length: u64, ids: &[StepId], out: &mut Vec<u8>) -> Result<(), Allo
     write_ids(ids, out)
 }
 
-// Goes on with a line by the numbers of the steps, or a part of them.
+// Writes the numbers of the steps at the end of a line, each after a space, or a part of them where memory runs out.
 fn write_ids(ids: &[StepId], out: &mut Vec<u8>) -> Result<(), AllocError>
     ensures ok { OnOk result ((start : List ℕ) (first : Token) (others : List Token)
         → AppendsSuch (λ text. SpellsLine [] text (first ∷ others)) start out.old.items
@@ -264,7 +267,7 @@ fn write_ids(ids: &[StepId], out: &mut Vec<u8>) -> Result<(), AllocError>
     Ok(())
 }
 
-// The code of a refusal.
+// The code of the refusal of a command.
 fn refusal_code(refusal: &Refusal) -> u8
     ensures { result ≡ refusal_code refusal.now }
 {
@@ -280,7 +283,7 @@ fn refusal_code(refusal: &Refusal) -> u8
     }
 }
 
-// The code of what a role's type doesn't allow.
+// The code of a violation: of what a role's type doesn't allow.
 fn violation_code(violation: Violation) -> u8
     ensures { result ≡ violation_code violation }
 {

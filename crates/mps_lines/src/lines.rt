@@ -36,7 +36,7 @@ impl Model for Lines {
 }
 
 impl Lines {
-    /// No line and no rest.
+    /// Lines to which no byte has come. It does not allocate.
     pub fn new(alloc: Global) -> Lines
         ensures { result ≡ nothing }
     {
@@ -46,12 +46,14 @@ impl Lines {
         }
     }
 
-    /// Takes more bytes.
+    /// Takes a piece of bytes: the lines that it ends wait after the others, and what follows its last LF is the rest.
+    /// Where memory runs out, none of it is taken.
     pub fn feed(&mut self, piece: &[u8]) -> Result<(), AllocError>
         ensures ok { OnOk result (self.new ≡ fed self.old piece.now) }
         ensures err { OnErr result (self.new ≡ self.old) }
     {
         let start = last_start(piece);
+        // a piece with an LF ends the old rest, and a rest of its own begins
         let had = if start == 0 { self.rest_len } else { 0 };
         let count = (MOST_KEPT - had).min(piece.len() - start);
         self.bytes.extend_from_slice(&piece[..start + count])?;
@@ -59,7 +61,7 @@ impl Lines {
         Ok(())
     }
 
-    /// Takes the first line that waits.
+    /// Takes the first line that waits, if one does. Where memory runs out, it still waits.
     pub fn next_line(&mut self) -> Result<Option<Line>, AllocError>
         ensures first { IfOk result (λ line. line ≡ slice_get self.old.waiting 0) }
         ensures others { OnOk result (self.new.waiting ≡ drop 1 self.old.waiting) }
@@ -71,11 +73,12 @@ impl Lines {
             return Ok(None);
         };
         let line = take_line(&mut self.bytes, k)?;
+        // its LF
         self.bytes.advance(1);
         Ok(Some(line))
     }
 
-    /// Takes the rest as a last line, where it has a byte.
+    /// Takes the rest as a last line, where it has a byte. No line may wait. Where memory runs out, nothing is taken.
     pub fn finish(&mut self) -> Result<Option<Line>, AllocError>
         requires { self.old.waiting ≡ [] }
         ensures last { IfOk result (λ line. line ≡ last_of self.old.rest) }
@@ -92,7 +95,8 @@ impl Lines {
     }
 }
 
-// Takes the first `count` bytes as a line.
+// Takes the first `count` bytes as a line, which shares their block if it is a text. Only that asks for memory; where
+// it runs out, nothing is taken.
 fn take_line(bytes: &mut BytesMut, count: usize) -> Result<Line, AllocError>
     requires { count ≤ length bytes.old.items }
     ensures line { IfOk result (λ line. line ≡ line_of (take count bytes.old.items)) }
@@ -110,8 +114,8 @@ fn take_line(bytes: &mut BytesMut, count: usize) -> Result<Line, AllocError>
     Ok(Line::Text(bytes.freeze_to(count)?))
 }
 
-// Whether each byte is below 128. A loop that looks at all bytes is compiled to one that looks at
-// many at a time.
+// Whether each byte is below 128. A loop that looks at all bytes is compiled to one that looks at many at a time; std's
+// `is_ascii` ends at the first that isn't.
 fn is_ascii(bytes: &[u8]) -> bool
     ensures { result ≡ list_all is_ascii bytes.now }
 {
@@ -122,7 +126,7 @@ fn is_ascii(bytes: &[u8]) -> bool
     largest < 128
 }
 
-// Where the rest of a piece begins: after its last LF.
+// Where the rest of a piece begins: after its last LF, or at its front where it has none.
 fn last_start(piece: &[u8]) -> usize
     ensures within { result ≤ length piece.now }
     ensures rest { drop result piece.now ≡ (cut piece.now).rest }

@@ -11,8 +11,8 @@ use crate::order::{earlier, with_number};
 use mps_arena::{Arena, steps_are_sound};
 use mps_base::StepId;
 
-/// The least number of another step that depends on this one. It is the number of its role's next
-/// step or of its receipt. Unproved: it looks at no other step.
+/// The least number of another step that depends on this one, if one does. It is the number of its role's next step or
+/// of its receipt. Unproved: it looks at no other step.
 pub fn least_dependent(arena: &Arena, id: StepId) -> Option<StepId>
     requires present { IsSome (step_of (steps arena.now.keyed_steps) id) }
     ensures least { result ≡ least (dependents (steps arena.now.keyed_steps) id) }
@@ -21,6 +21,7 @@ pub fn least_dependent(arena: &Arena, id: StepId) -> Option<StepId>
         → option_map (λ e. e.key) (find (λ e. e.step.id == id) arena.now.keyed_steps) ≡ Some k
         → CanGo arena.now.keyed_steps k }
 {
+    // for the proof alone
     steps_are_sound(arena);
     let key = arena.by_id(id)?;
     let next = with_number(arena, arena.next_of_role(key));

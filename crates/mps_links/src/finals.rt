@@ -10,7 +10,7 @@ use crate::order::{earlier, with_number};
 use mps_arena::{Arena, Key, steps_are_sound};
 use mps_base::{Act, Role, StepId};
 
-// The key itself where its step is a commit, else the other one.
+// The key itself where its step is a commit, else `other`.
 fn commit_or(arena: &Arena, key: Key, other: Option<Key>) -> Option<Key>
     requires { IsSome (keyed_at key arena.now.keyed_steps) }
     ensures { (e : KeyedStep) → keyed_at key arena.now.keyed_steps ≡ Some e
@@ -22,7 +22,7 @@ fn commit_or(arena: &Arena, key: Key, other: Option<Key>) -> Option<Key>
     }
 }
 
-// The role's first marked commit, by a walk from its last step back.
+// The role's first marked commit, if it has one, by a walk from its last step back to the first marked one.
 fn first_final_of(arena: &Arena, role: Role) -> Option<Key>
     requires small { role < 8 }
     requires closed { AreMarksClosed arena.now.keyed_steps }
@@ -31,10 +31,12 @@ fn first_final_of(arena: &Arena, role: Role) -> Option<Key>
 {
     let mut first = None;
     let mut at = arena.last_of(role);
+    // no role has more steps than that, so the walk comes to its end
     for _ in 0..arena.len() {
         let Some(key) = at else {
             return first;
         };
+        // for the proof alone
         steps_are_sound(arena);
         if !arena.marked(key) {
             return first;
@@ -51,6 +53,7 @@ pub fn least_final(arena: &Arena) -> Option<StepId>
     requires closed { AreMarksClosed arena.now.keyed_steps }
     ensures least { result ≡ least (marked_commits arena.now.keyed_steps) }
 {
+    // for the proof alone
     steps_are_sound(arena);
     let mut first = None;
     for role in 0..8 {

@@ -14,9 +14,8 @@ use crate::pending::Pending;
 use mps_arena::{Arena, Key, steps_are_sound};
 use mps_base::{Role, StepId};
 
-/// Marks the step of that number and all that depend on it, and tells how many they are. It goes
-/// from link to link, the oldest first. Unproved: it looks at no step that it doesn't mark, but at
-/// the next of each role.
+/// Marks the step of that number and all that depend on it, and tells how many they are. It goes from link to link, the
+/// oldest first. Unproved: it looks at no step that it doesn't mark, but at the next of each role.
 pub fn mark_from(arena: &mut Arena, id: StepId) -> usize
     requires present { IsSome (step_of (steps arena.old.keyed_steps) id) }
     requires unmarked { marked_keys arena.old.keyed_steps ≡ [] }
@@ -30,11 +29,14 @@ pub fn mark_from(arena: &mut Arena, id: StepId) -> usize
     ensures key { arena.new.next_key ≡ arena.old.next_key }
 {
     let len = arena.len();
+    // the clause `present` says that there is one
     let first = arena.by_id(id).unwrap();
     let mut pending = Pending::new();
     pending.follow(arena, first);
     arena.set_mark(first, true);
+    // one more is marked in each round; after the last all are
     for count in 1..len {
+        // for the proof alone
         steps_are_sound(arena);
         let Some(key) = pending.earliest() else {
             return count;
@@ -45,7 +47,7 @@ pub fn mark_from(arena: &mut Arena, id: StepId) -> usize
     len
 }
 
-// The role's newest marked step: its last, or none.
+// The role's newest marked step with its number, if it has one. It is the role's last step, since marks are closed.
 fn newest_marked_of(arena: &Arena, role: Role) -> Option<NumberedKey>
     requires small { role < 8 }
     requires closed { AreMarksClosed arena.now.keyed_steps }
@@ -54,6 +56,7 @@ fn newest_marked_of(arena: &Arena, role: Role) -> Option<NumberedKey>
     ensures number { HasNumber arena.now.keyed_steps result }
 {
     let key = arena.last_of(role)?;
+    // for the proof alone
     steps_are_sound(arena);
     if !arena.marked(key) {
         return None;
@@ -69,6 +72,7 @@ pub fn newest_marked(arena: &Arena) -> Option<Key>
     ensures none { result ≡ None → marked_keys arena.now.keyed_steps ≡ [] }
     ensures free { IfSome result (λ key. CanGo arena.now.keyed_steps key) }
 {
+    // for the proof alone
     steps_are_sound(arena);
     let mut newest = None;
     for role in 0..8 {
@@ -77,7 +81,7 @@ pub fn newest_marked(arena: &Arena) -> Option<Key>
     key_of(newest)
 }
 
-// Takes the marks of a role off, from its last step back.
+// Takes the marks of a role off, from its last step back to the first marked one.
 fn unmark_role(arena: &mut Arena, role: Role)
     requires small { role < 8 }
     requires last { AreLastMarked role arena.old.keyed_steps }
@@ -87,10 +91,12 @@ fn unmark_role(arena: &mut Arena, role: Role)
     ensures key { arena.new.next_key ≡ arena.old.next_key }
 {
     let mut at = arena.last_of(role);
+    // no role has more steps than that, so the walk comes to its end
     for _ in 0..arena.len() {
         let Some(key) = at else {
             return;
         };
+        // for the proof alone
         steps_are_sound(arena);
         if !arena.marked(key) {
             return;
@@ -110,6 +116,7 @@ pub fn unmark(arena: &mut Arena)
     ensures space { arena.new.has_space ≡ arena.old.has_space }
     ensures key { arena.new.next_key ≡ arena.old.next_key }
 {
+    // for the proof alone
     steps_are_sound(arena);
     for role in 0..8 {
         unmark_role(arena, Role::new(role));

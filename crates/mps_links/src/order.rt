@@ -14,26 +14,27 @@ pub(crate) struct NumberedKey {
     pub(crate) id: StepId,
 }
 
-/// The step of the key with its number.
+/// The key with the number of its step, where there is a key.
 pub(crate) fn with_number(arena: &Arena, key: Option<Key>) -> Option<NumberedKey>
     requires { IfSome key (λ key. IsSome (keyed_at key arena.now.keyed_steps)) }
     ensures key { key_of result ≡ key }
     ensures number { HasNumber arena.now.keyed_steps result }
 {
     let key = key?;
+    // for the proof alone
     steps_are_sound(arena);
     let id = arena.get(key).id;
     Some(NumberedKey { key, id })
 }
 
-/// The key alone.
+/// The key without its number, where there is one.
 pub(crate) fn key_of(newest: Option<NumberedKey>) -> Option<Key>
     ensures { result ≡ key_of newest }
 {
     Some(newest?.key)
 }
 
-/// Of two steps the one with the smaller number.
+/// Of two steps the one with the smaller number; the only one where there is one alone.
 pub(crate) fn earlier(a: Option<NumberedKey>, b: Option<NumberedKey>) -> Option<NumberedKey>
     ensures { (es : List KeyedStep) → HasNumber es a → HasNumber es b
         → (key_of result ≡ earlier es (key_of a) (key_of b)) × HasNumber es result }
@@ -45,7 +46,7 @@ pub(crate) fn earlier(a: Option<NumberedKey>, b: Option<NumberedKey>) -> Option<
     }
 }
 
-/// Of two steps the one with the larger number.
+/// Of two steps the one with the larger number; the only one where there is one alone.
 pub(crate) fn later(a: Option<NumberedKey>, b: Option<NumberedKey>) -> Option<NumberedKey>
     ensures { (es : List KeyedStep) → HasNumber es a → HasNumber es b
         → (key_of result ≡ later es (key_of a) (key_of b)) × HasNumber es result }

@@ -8,12 +8,13 @@ ghost use Rattle.mps_links.specs.Private.Pending.{followed, earliest};
 use crate::order::{NumberedKey, earlier, key_of, with_number};
 use mps_arena::{Arena, Key, steps_are_sound};
 
-// The place of the step's role.
+// The place of the role whose step has the key.
 fn role_at(arena: &Arena, key: Key) -> usize
     requires { IsSome (keyed_at key arena.now.keyed_steps) }
     ensures role { option_map (λ e. e.step.role) (keyed_at key arena.now.keyed_steps) ≡ Some result }
     ensures small { result < 8 }
 {
+    // for the proof alone
     steps_are_sound(arena);
     arena.get(key).role.index()
 }
@@ -25,7 +26,7 @@ pub(crate) struct Pending {
 }
 
 impl Pending {
-    /// Where no step is marked.
+    /// What is pending while no step is marked: nothing.
     pub(crate) fn new() -> Pending
         ensures size { length result.firsts ≡ 8 }
         ensures keys { keys_alone result.firsts ≡ replicate 8 None }
@@ -34,7 +35,7 @@ impl Pending {
         Pending { firsts: [None; 8] }
     }
 
-    /// The earliest of all.
+    /// The key of the earliest pending step, if there is one.
     pub(crate) fn earliest(&self) -> Option<Key>
         requires size { length self.now.firsts ≡ 8 }
         ensures { (es : List KeyedStep) → HaveNumbers es self.now.firsts
@@ -50,7 +51,8 @@ impl Pending {
         key_of(first)
     }
 
-    /// Where the step is marked too: its role's next step and its receipt depend on it.
+    /// Notes that the earliest pending step, or the one to begin with, is marked: its role's next step and its receipt
+    /// depend on it, so they are pending now.
     #[inline(always)]
     pub(crate) fn follow(&mut self, arena: &Arena, key: Key)
         requires size { length self.old.firsts ≡ 8 }

@@ -7,7 +7,8 @@ use mps_base::{Name, Role, Sort, VarName};
 use std::alloc::{AllocError, Global};
 
 impl Local {
-    /// `rec` of the variable, and then the body, in which the variable stands for the whole.
+    /// `rec` of the variable, and then the body, in which the variable stands for the whole. The body is dropped where
+    /// memory runs out.
     pub fn rec(alloc: Global, name: VarName, body: Local) -> Result<Local, AllocError>
         ensures { IfOk result (λ t. plain t ≡ Rec name (plain body)) }
     {
@@ -15,7 +16,7 @@ impl Local {
         Ok(Local::Rec(name, body))
     }
 
-    /// An output to the peer, and then `next`.
+    /// An output of a value of the sort to the peer, and then `next`, which is dropped where memory runs out.
     pub fn send(alloc: Global, peer: Role, sort: Sort, next: Local) -> Result<Local, AllocError>
         ensures { IfOk result (λ t. plain t ≡ Send peer sort (plain next)) }
     {
@@ -23,7 +24,7 @@ impl Local {
         Ok(Local::Send { peer, sort, next })
     }
 
-    /// An input from the peer, and then `next`.
+    /// An input of a value of the sort from the peer, and then `next`, which is dropped where memory runs out.
     pub fn recv(alloc: Global, peer: Role, sort: Sort, next: Local) -> Result<Local, AllocError>
         ensures { IfOk result (λ t. plain t ≡ Recv peer sort (plain next)) }
     {
@@ -33,7 +34,7 @@ impl Local {
 }
 
 impl Branches {
-    /// A branch in front of the others.
+    /// A branch in front of the others. What follows its label, and the others, are dropped where memory runs out.
     pub fn more(
         alloc: Global,
         label: Name,

@@ -11,7 +11,7 @@ use crate::{Branches, Local};
 use std::alloc::{AllocError, Global};
 
 impl Local {
-    /// An equal type.
+    /// A copy of the type. It is made in a loop, so a deep or wide type doesn't overflow the stack.
     pub fn copy(&self, alloc: Global) -> Result<Local, AllocError>
         ensures { IfOk result (λ t. plain t ≡ plain self.now) }
     {
@@ -21,7 +21,7 @@ impl Local {
 }
 
 impl Branches {
-    /// Equal branches.
+    /// A copy of the branches. It is made in a loop, so deep or wide types don't overflow the stack.
     pub fn copy(&self, alloc: Global) -> Result<Branches, AllocError>
         ensures { IfOk result (λ b. plain_branches b ≡ plain_branches self.now) }
     {
@@ -30,7 +30,7 @@ impl Branches {
     }
 }
 
-/// Equal types, in order.
+/// Copies of the types, in order.
 pub fn copy_all(alloc: Global, types: &[Local]) -> Result<Vec<Local>, AllocError>
     ensures { IfOk result (λ made. map plain made.items ≡ map plain types.now) }
 {
@@ -58,7 +58,8 @@ struct Made {
     branches: Vec<Branches>,
 }
 
-// Makes it, and what it needs first, with the last that waits before the others.
+// Makes a copy of what `first` stands for. What waits is a stack: what a node needs is put there after the node, so it
+// is made before.
 #[tactic(auto, using(crate::proofs::Copied::all_more, crate::proofs::Copied::weight_more))]
 fn make(alloc: Global, first: Todo<'_>) -> Result<Made, AllocError>
     ensures { IfOk result (λ made. stacks made ≡ with_next first.entry nothing_made) }
@@ -80,7 +81,7 @@ fn make(alloc: Global, first: Todo<'_>) -> Result<Made, AllocError>
     Ok(made)
 }
 
-// A tree's first node waits for what stands below it.
+// Puts a tree's first node on the stack of what waits, and then what stands below it, which is made first.
 #[tactic(auto, using(crate::proofs::Copied::all_more, crate::proofs::Copied::weight_more))]
 fn open_tree<'a>(tree: &'a Local, waiting: &mut Vec<Todo<'a>>) -> Result<(), AllocError>
     ensures made { OnOk result ((s : Stacks) → with_all waiting.new.items s
@@ -100,7 +101,7 @@ fn open_tree<'a>(tree: &'a Local, waiting: &mut Vec<Todo<'a>>) -> Result<(), All
     }
 }
 
-// The first of the branches waits for its tree, and then for the others.
+// Puts the first of the branches on the stack of what waits, and then the others and its tree, which are made first.
 #[tactic(auto, using(crate::proofs::Copied::all_more, crate::proofs::Copied::weight_more))]
 fn open_branches<'a>(branches: &'a Branches, waiting: &mut Vec<Todo<'a>>) -> Result<(), AllocError>
     ensures made { OnOk result ((s : Stacks) → with_all waiting.new.items s
@@ -120,7 +121,7 @@ fn open_branches<'a>(branches: &'a Branches, waiting: &mut Vec<Todo<'a>>) -> Res
 }
 
 impl Made {
-    // Makes a node like this one of what was made last.
+    // Makes a node like this one, of what was made last, and puts it with the trees that are made.
     fn make_node(&mut self, alloc: Global, like: &Local) -> Result<(), AllocError>
         ensures { OnOk result (stacks self.new ≡ with_node like.now (stacks self.old)) }
     {
@@ -128,7 +129,7 @@ impl Made {
         Ok(self.trees.push(node)?)
     }
 
-    // The node.
+    // Makes a node like this one: what stands below it is what was made last, which is taken away.
     fn node(&mut self, alloc: Global, like: &Local) -> Result<Local, AllocError>
         ensures { IfOk result (λ t. with_tree (plain t) (stacks self.new)
             ≡ with_node like.now (stacks self.old)) }
@@ -150,7 +151,8 @@ impl Made {
         }
     }
 
-    // Puts a branch like the first of these in front of the branches that were made last.
+    // Makes a branch like the first of these, of the tree and the branches that were made last, or no branches where
+    // there is none. It puts them with the branches that are made.
     fn make_arm(&mut self, alloc: Global, like: &Branches) -> Result<(), AllocError>
         ensures { OnOk result (stacks self.new ≡ with_arm like.now (stacks self.old)) }
     {
@@ -164,7 +166,8 @@ impl Made {
         }
     }
 
-    // The tree that was made last, or an end where none was: either way each copy is proved equal.
+    // Takes the tree that was made last. Where there is none it gives an end, as the definition `last_tree` does, so no
+    // proof has to show that there is one.
     fn take_tree(&mut self) -> Local
         ensures taken { plain result ≡ last_tree (stacks self.old) }
         ensures left { stacks self.new ≡ without_tree (stacks self.old) }
@@ -175,7 +178,8 @@ impl Made {
         }
     }
 
-    // The same of branches.
+    // Takes the branches that were made last. Where there are none it gives no branches, as the definition
+    // `last_branches` does, so no proof has to show that there are some.
     fn take_branches(&mut self) -> Branches
         ensures taken { plain_branches result ≡ last_branches (stacks self.old) }
         ensures left { stacks self.new ≡ without_branches (stacks self.old) }

@@ -5,7 +5,7 @@ ghost use Rattle.mps_local.specs.Projection.{same, same_branches};
 
 use crate::{Branches, Local};
 
-/// Whether two types are the same tree.
+/// Whether two types are the same tree, down to the names of variables.
 #[cycle(same)]
 pub(crate) fn same(one: &Local, other: &Local) -> bool
     ensures { result ≡ same (plain one.now) (plain other.now) }
@@ -48,7 +48,7 @@ pub(crate) fn same(one: &Local, other: &Local) -> bool
     }
 }
 
-// Whether two lists of branches are the same.
+// Whether two lists of branches have the same labels in the same order, and after each the same type.
 #[cycle(same)]
 fn same_branches(one: &Branches, other: &Branches) -> bool
     ensures { result ≡ same_branches (plain_branches one.now) (plain_branches other.now) }

@@ -50,13 +50,14 @@ impl From<AllocError> for LocalFault {
 
     ghost from_gives = { λ _ fault. fault ≡ Memory };
 
+    // A failed allocation is `Memory`.
     fn from(_: AllocError) -> LocalFault {
         LocalFault::Memory
     }
 }
 
-/// The first fault of a local type. The type may be of any size: nothing goes more than 257 nodes
-/// deep into it.
+/// The first fault of a local type, if it has one: of its size, then of its nodes in preorder. The type may be of any
+/// size: nothing goes more than 257 nodes deep into it.
 pub fn first_fault(t: &Local) -> Option<LocalFault>
     ensures { result ≡ local_fault_of (plain t.now) }
 {
@@ -87,21 +88,22 @@ pub fn local_fault_laws()
     ensures memory { (t : LocalType) → local_fault_of t ≢ Some Fault.Memory }
 {}
 
-/// The size of a type by the list of its nodes: it has as many nodes as stand there, and is as deep
-/// as the deepest of them stands.
+/// The size of a type by the list of its nodes: `places` lists as many nodes as `node_count` says, and the greatest
+/// `level` in it is `depth`.
 pub fn local_size_laws()
     ensures nodes { (t : LocalType) → length (places [] t) ≡ node_count t }
     ensures levels { (t : LocalType) → greatest (map level (places [] t)) ≡ depth t }
 {}
 
-/// What a role does in a protocol without faults has no fault.
+/// The projection of a protocol without faults to a role, where there is one, has no fault as a local type.
 pub fn projections_have_no_fault()
     ensures { (roles : List (List ℕ)) (role : ℕ) (tree : GlobalType) (t : LocalType)
         → fault_of roles tree ≡ None → projection roles role tree ≡ Some t
         → local_fault_of t ≡ None }
 {}
 
-// What is left of the limit after each node has taken 1, or None where the nodes are more.
+// What is left of the limit after each node has taken 1, or `None` where the nodes are more. It goes no deeper than the
+// limit.
 #[cycle(nodes)]
 #[tactic(auto, using(crate::proofs::Sizes::some_node))]
 fn nodes_left(t: &Local, limit: usize) -> Option<usize>
@@ -123,7 +125,7 @@ fn nodes_left(t: &Local, limit: usize) -> Option<usize>
     }
 }
 
-// The same of the nodes of the branches.
+// What is left of the limit after each node of the branches has taken 1, or `None` where the nodes are more.
 #[cycle(nodes)]
 fn branch_nodes_left(branches: &Branches, limit: usize) -> Option<usize>
     ensures { MatchOption result
@@ -170,7 +172,7 @@ fn are_within(branches: &Branches, limit: usize) -> bool
     }
 }
 
-// What is wrong with the first faulty node in preorder.
+// The fault of the first faulty node of the type in preorder, if there is one. `above` is the path to the type.
 #[cycle(walk)]
 fn fault_in(t: &Local, above: &Above<'_>) -> Option<LocalFault>
     ensures { result ≡ fault_at (places (edges above.now) (plain t.now)) }
@@ -190,7 +192,7 @@ fn fault_in(t: &Local, above: &Above<'_>) -> Option<LocalFault>
     }
 }
 
-// The same of the nodes of the branches.
+// The fault of the first faulty node of the branches in preorder, if there is one. `above` is the path to them.
 #[cycle(walk)]
 #[tactic(auto, using(crate::proofs::Faulty::first_of_both))]
 fn fault_in_branches(branches: &Branches, above: &Above<'_>) -> Option<LocalFault>
@@ -206,7 +208,7 @@ fn fault_in_branches(branches: &Branches, above: &Above<'_>) -> Option<LocalFaul
     }
 }
 
-// What is wrong at the node with that path.
+// The fault of the node itself, if it has one, whatever stands below it. `above` is the path to the node.
 fn node_fault(node: &Local, above: &Above<'_>) -> Option<LocalFault>
     ensures { result ≡ first_true (node_tests (edges above.now) (plain node.now)) }
 {
@@ -218,7 +220,7 @@ fn node_fault(node: &Local, above: &Above<'_>) -> Option<LocalFault>
     }
 }
 
-// What is wrong with a variable that has that path.
+// The fault of a variable: no `rec` of it stands on the path `above`, or no act between that and the variable.
 fn variable_fault(name: &VarName, above: &Above<'_>) -> Option<LocalFault>
     ensures { result ≡ first_true (variable_tests name.now (edges above.now)) }
 {
@@ -231,7 +233,7 @@ fn variable_fault(name: &VarName, above: &Above<'_>) -> Option<LocalFault>
     None
 }
 
-// What is wrong with a `rec` of that variable, which has that path.
+// The fault of a `rec` of that variable: another `rec` of it stands on the path `above`.
 fn rec_fault(name: &VarName, above: &Above<'_>) -> Option<LocalFault>
     ensures { result ≡ first_true (rec_tests name.now (edges above.now)) }
 {
@@ -241,7 +243,7 @@ fn rec_fault(name: &VarName, above: &Above<'_>) -> Option<LocalFault>
     None
 }
 
-// What is wrong with the labels of a choice.
+// What is wrong with the labels of a choice, if anything: one stands twice, they are too many, or there is none.
 fn label_fault(branches: &Branches) -> Option<LocalFault>
     ensures { result ≡ first_true (label_tests (labels (plain_branches branches.now))) }
 {
@@ -257,7 +259,7 @@ fn label_fault(branches: &Branches) -> Option<LocalFault>
     }
 }
 
-// Whether two branches have one label.
+// Whether a label stands twice in the branches.
 fn has_double_label(branches: &Branches) -> bool
     ensures { result ≡ has_double (labels (plain_branches branches.now)) }
 {
@@ -282,7 +284,7 @@ fn has_label(branches: &Branches, label: &Name) -> bool
     }
 }
 
-// Whether the branches are more than the limit.
+// Whether the branches are more than the limit. One more than the limit are looked at, at most.
 fn has_more_than(branches: &Branches, limit: usize) -> bool
     ensures { result ≡ nat_lt limit (length (labels (plain_branches branches.now))) }
 {

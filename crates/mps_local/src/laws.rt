@@ -31,7 +31,7 @@ pub fn merging_is_equality()
         ↔ ((nexts b ≢ []) × AllByRecursion (λ u. u ≡ t) (nexts b)) }
 {}
 
-/// A choice is named exactly where there is no projection, whatever number the first choice has.
+/// Where a role has no projection, a choice is named, and only there, whatever number the first choice has.
 pub fn unmerged_is_named()
     ensures named { (roles : List (List ℕ)) (role number : ℕ) (tree : GlobalType)
         → projection roles role tree ≡ None

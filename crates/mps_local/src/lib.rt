@@ -78,8 +78,8 @@ pub enum Branches {
 }
 
 impl Drop for Local {
-    // in a loop, so that no tree, long, deep or wide, runs the stack out: what still waits stands
-    // in a list of branches, made of the boxes that are there
+    // Drops the tree in a loop, so that none, long, deep or wide, runs the stack out: what still waits stands in a list
+    // of branches, made of the boxes that are there.
     #[tactic(auto, using(crate::proofs::Weights::some_weight))]
     fn drop(mut self) {
         let mut waiting = Branches::NoMore;
@@ -106,6 +106,8 @@ impl Drop for Local {
                 Local::Select { peer, branches } | Local::Branch { peer, branches } => {
                     match branches.first() {
                         None => self = Local::End,
+                        // the first branch's tree is next: its box takes the rest of the choice, of either kind, and
+                        // the other box what waited before
                         Some((label, mut next, mut others)) => {
                             let branches = mem::replace(&mut *others, waiting);
                             self = mem::replace(&mut *next, Local::Select { peer, branches });
@@ -123,6 +125,7 @@ impl Drop for Local {
 }
 
 impl Drop for Branches {
+    // Drops the branches in a loop, one after the other; the tree of each is dropped in a loop too.
     fn drop(mut self) {
         loop {
             match self {
@@ -141,7 +144,7 @@ impl Drop for Branches {
 }
 
 impl Branches {
-    /// The first branch, and the others, where there is one.
+    /// The first branch, in its parts, and the others, where there is one.
     pub(crate) fn first(self) -> Option<(Name, Box<Local>, Box<Branches>)>
         ensures weight { MatchOption result
             ((branch_weight self ≡ 1) × (waiting_weight self ≡ 0))

@@ -18,7 +18,8 @@ enum Bound<'a> {
     Inside(&'a VarName, &'a Bound<'a>),
 }
 
-/// Whether a loop is none for the role: the role takes no part in it, and it has no free variable.
+/// Whether the loop `rec name . body` is the end for the role: the role takes no part in it, and it has no free
+/// variable.
 pub(crate) fn is_idle(roles: &[Name], name: &VarName, body: &Global, role: Role) -> bool
     requires few { length roles.now ≤ 8 }
     ensures { result ≡ is_idle roles.now role name.now (plain body.now) }
@@ -57,7 +58,7 @@ fn occurs(roles: &[Name], tree: &Global, role: Role) -> bool
     }
 }
 
-// The same of the branches.
+// Whether the role sends or receives anywhere in the branches.
 #[cycle(occurs)]
 fn occurs_in(roles: &[Name], branches: &Branches, role: Role) -> bool
     requires few { length roles.now ≤ 8 }
@@ -71,7 +72,7 @@ fn occurs_in(roles: &[Name], branches: &Branches, role: Role) -> bool
     }
 }
 
-// Whether each variable of the tree stands in a `rec` of it, or is one of these.
+// Whether each variable of the tree stands in a `rec` of it, or is one of `bound`.
 #[cycle(closed)]
 fn is_closed(tree: &Global, bound: &Bound<'_>) -> bool
     ensures { result ≡ is_closed (names_bound bound.now) (plain tree.now) }
@@ -85,7 +86,7 @@ fn is_closed(tree: &Global, bound: &Bound<'_>) -> bool
     }
 }
 
-// The same of the branches.
+// Whether each variable of the branches stands in a `rec` of them, or is one of `bound`.
 #[cycle(closed)]
 fn are_closed(branches: &Branches, bound: &Bound<'_>) -> bool
     ensures { result ≡ are_closed (names_bound bound.now) (plain_branches branches.now) }
@@ -98,7 +99,7 @@ fn are_closed(branches: &Branches, bound: &Bound<'_>) -> bool
     }
 }
 
-// Whether the variable is one of these.
+// Whether the variable is one of `bound`.
 fn is_bound(name: &VarName, bound: &Bound<'_>) -> bool
     ensures { result ≡ list_any (bytes_eq name.now) (names_bound bound.now) }
 {
@@ -121,7 +122,7 @@ pub(crate) fn choice_count(tree: &Global) -> usize
     }
 }
 
-// The same of the branches.
+// How many choices the branches have, which is at most 256.
 #[cycle(choices)]
 fn branch_choices(branches: &Branches) -> usize
     requires few { branch_choices (plain_branches branches.now) ≤ 256 }

@@ -7,7 +7,7 @@ use crate::{Branches, Local};
 use mps_base::Role;
 use std::mem;
 
-/// Whether the peer is another of so many roles than this one.
+/// Whether the peer is one of the first `count` roles, and another than `role`.
 pub fn is_other(count: usize, role: usize, peer: Role) -> bool
     ensures { IsTrue result ↔ IsOtherRole count role peer }
 {
@@ -15,8 +15,8 @@ pub fn is_other(count: usize, role: usize, peer: Role) -> bool
 }
 
 impl Local {
-    /// Whether each peer that the type names is another of so many roles than this one. It takes the
-    /// type apart in a loop, so it needs neither stack nor memory, whatever the type's size and shape.
+    /// Whether each peer that the type names is one of the first `count` roles, and another than `role`. It takes the
+    /// type apart in a loop, and drops it, so it needs neither stack nor memory, whatever the type's size and shape.
     #[tactic(auto, using(crate::proofs::Weights::some_weight))]
     pub fn names_others(mut self, count: usize, role: usize) -> bool
         ensures { IsTrue result ↔ AllPeers (IsOtherRole count role) (plain self) }
@@ -53,6 +53,8 @@ impl Local {
                     }
                     match branches.first() {
                         None => self = Local::End,
+                        // the first branch's tree is next: its box takes the rest of the choice, of either kind, and
+                        // the other box what waited before
                         Some((label, mut next, mut others)) => {
                             let branches = mem::replace(&mut *others, waiting);
                             self = mem::replace(&mut *next, Local::Select { peer, branches });

@@ -37,6 +37,7 @@ impl From<AllocError> for ProjectFault {
 
     ghost from_gives = { λ _ fault. fault ≡ Memory };
 
+    // A failed allocation is `Memory`.
     fn from(_: AllocError) -> ProjectFault {
         ProjectFault::Memory
     }
@@ -47,13 +48,14 @@ impl<T: Drop> From<AllocFailed<T>> for ProjectFault {
 
     ghost from_gives = { λ _ fault. fault ≡ Memory };
 
+    // A failed allocation is `Memory`; what it gives back is dropped.
     fn from(_: AllocFailed<T>) -> ProjectFault {
         ProjectFault::Memory
     }
 }
 
-/// What the role does in the protocol. It takes stack for each level, of which there are at most
-/// 64.
+/// What the role does in the protocol. Where branches can't be merged, the fault names the role and the first such
+/// choice. It takes stack for each level, of which there are at most 64.
 pub fn project(alloc: alloc::Global, protocol: &Protocol, role: Role) -> Result<Local, ProjectFault>
     requires well_formed { fault_of protocol.now.roles.items (global_type protocol.now.body) ≡ None }
     requires in_session { role < length protocol.now.roles.items }
@@ -62,15 +64,17 @@ pub fn project(alloc: alloc::Global, protocol: &Protocol, role: Role) -> Result<
         ≡ Some (plain t)) }
     ensures peers { IfOk result
         (λ t. AllPeers (λ peer. peer < length protocol.now.roles.items) (plain t)) }
-    // It is refused only where there is no projection, and names the role and the choice.
+    // It is refused only where there is no projection or no memory.
     ensures fault { IfErr result
         (IsUnmerged protocol.now.roles.items role 0 (global_type protocol.now.body)) }
 {
+    // how many choices the protocol has isn't needed
     let (local, _) = project_tree(alloc, &protocol.roles, &protocol.body, role, 0)?;
     Ok(local)
 }
 
-/// What each role does in the protocol, in order. Where roles have no projection, the first is named.
+/// What each role does in the protocol, in the order of the roles. The first role that has no projection is named, with
+/// the choice.
 pub fn project_all(alloc: alloc::Global, protocol: &Protocol) -> Result<Vec<Local>, ProjectFault>
     requires { fault_of protocol.now.roles.items (global_type protocol.now.body) ≡ None }
     ensures ok { IfOk result (λ types. AreProjections
@@ -82,6 +86,7 @@ pub fn project_all(alloc: alloc::Global, protocol: &Protocol) -> Result<Vec<Loca
 {
     let mut types = Vec::with_capacity(alloc, protocol.roles.len())?;
     for place in 0..protocol.roles.len() {
+        // the place is below 8, as a protocol without faults has at most 8 roles
         let t = project(alloc, protocol, Role::new(place as u8))?;
         types.push(t)?;
     }
@@ -105,8 +110,8 @@ pub fn projection_laws()
         → (node_count t ≤ 256) × (depth t ≤ 64) }
 {}
 
-// What the role does in the tree, whose first choice has that number, and the number of the next
-// choice after it.
+// Projects a tree whose first choice has the number `number`. It gives what the role does there, and the number of the
+// first choice after the tree.
 #[cycle(project)]
 #[tactic(auto, using(crate::proofs::Examined::message_done, crate::proofs::Examined::choice_fails_in_a_branch, crate::proofs::Examined::choice_done, crate::proofs::Examined::choice_fails))]
 fn project_tree(
@@ -127,6 +132,7 @@ fn project_tree(
         Global::Var(name) => Ok((Local::Var(*name), number)),
         Global::Rec(name, body) => {
             if is_idle(&*roles, name, body, role) {
+                // its choices are counted, and none is looked at
                 return Ok((Local::End, number + choice_count(body)));
             }
             let (rest, after) = project_tree(alloc, &*roles, body, role, number)?;
@@ -162,7 +168,8 @@ fn project_tree(
     }
 }
 
-// The same of each branch.
+// Projects each of the branches, of which the first choice has the number `number`. It gives what the role does in
+// each, and the number of the first choice after them.
 #[cycle(project)]
 #[tactic(auto, using(crate::proofs::Examined::first_fails, crate::proofs::Examined::others_fail, crate::proofs::Examined::branches_done))]
 fn project_branches(
@@ -195,7 +202,8 @@ fn project_branches(
     }
 }
 
-// What the role does in a message and then.
+// What the role does in a message that goes on with `rest`: its sender has an output, its receiver an input, and each
+// other role just the rest.
 fn with_message(
     alloc: alloc::Global,
     role: Role,
@@ -215,7 +223,8 @@ fn with_message(
     Ok(rest)
 }
 
-// What the role does in a choice, where there is one such type.
+// What the role does in a choice that goes on with `branches`: its sender chooses, its receiver picks, and any other
+// role does what is the same in each of them; `None` where they differ for such a role.
 fn with_choice(role: Role, sender: Role, receiver: Role, branches: Branches) -> Option<Local>
     ensures { MatchOption result
         (with_choice role sender receiver (plain_branches branches) ≡ None)
@@ -236,7 +245,7 @@ fn with_choice(role: Role, sender: Role, receiver: Role, branches: Branches) -> 
     merged(branches)
 }
 
-// The one type that each branch goes on with.
+// The one type that each branch goes on with; `None` where two differ, or there is no branch.
 fn merged(branches: Branches) -> Option<Local>
     ensures { MatchOption result
         (merged (plain_branches branches) ≡ None)
@@ -261,15 +270,16 @@ fn go_on_with(first: &Local, branches: &Branches) -> bool
     }
 }
 
-/// The role of that name, or one after all of them.
+/// The role of that name. Where there is none it is the place after the last, which is no role.
 pub(crate) fn role_of(names: &[Name], name: &Name) -> Role
     requires few { length names.now ≤ 8 }
     ensures { result ≡ place_of names.now name.now }
 {
+    // at most 8, so it fits
     Role::new(place_of(names, name) as u8)
 }
 
-// The place of the first of the names that is spelled like that one, or how many they are.
+// The place of the first of the names that is spelled like that one, or how many the names are where none is.
 #[tactic(auto, using(crate::proofs::Places::found_place, crate::proofs::Places::no_place))]
 fn place_of(names: &[Name], name: &Name) -> usize
     ensures place { result ≡ place_of names.now name.now }
@@ -281,7 +291,7 @@ fn place_of(names: &[Name], name: &Name) -> usize
     }
 }
 
-// The place of the first of the names that is spelled like that one.
+// The place of the first of the names that is spelled like that one, if there is one.
 fn position_of(names: &[Name], name: &Name) -> Option<usize>
     ensures { result ≡ position (bytes_eq name.now) names.now }
 {

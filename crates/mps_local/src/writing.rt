@@ -15,8 +15,8 @@ use mps_base::spacing::push_token;
 use mps_base::{Role, Roles, Sort, VarName};
 use std::alloc::{AllocError, Global};
 
-/// The text of a local type, whose peers are roles of these: its tokens with one space between two,
-/// and no LF.
+/// The text of a local type, whose peers are roles of these, in a buffer of its own: its tokens with one space between
+/// two, and no LF.
 #[tactic(auto, using(crate::proofs::Written::as_text))]
 pub fn write_local(alloc: Global, roles: &Roles, tree: &Local) -> Result<Vec<u8>, AllocError>
     requires known { AllPeers (λ peer. peer < length roles.now) (plain tree.now) }
@@ -35,7 +35,8 @@ enum Todo<'a> {
     Others(&'a Branches),
 }
 
-// A local type, in a loop, so that no tree runs the stack out, however deep or wide it is.
+// Writes a local type at the end of `out`, in a loop, so that no tree runs the stack out, however deep or wide it is.
+// After an error a part of it may stand there.
 #[tactic(auto, using(crate::proofs::Written::left_more, crate::proofs::Written::weight_more))]
 fn write_tree(
     alloc: Global,
@@ -55,7 +56,7 @@ fn write_tree(
     Ok(())
 }
 
-// The next that is to be written, up to what then waits.
+// Writes the front of what is next, up to the types and branches in it, and puts these on the stack of what waits.
 fn write_next<'a>(
     roles: &Roles,
     next: Todo<'a>,
@@ -79,7 +80,7 @@ fn write_next<'a>(
     }
 }
 
-// What stands before the types in a node, which then wait.
+// Writes the front of a node, up to the type or the branches in it, which are put on the stack of what waits.
 #[tactic(auto, using(crate::proofs::Written::left_more, crate::proofs::Written::weight_more, crate::proofs::Written::more_known))]
 fn write_node<'a>(
     roles: &Roles,
@@ -123,7 +124,7 @@ fn write_node<'a>(
     }
 }
 
-// The first branch after `{`, or `}`.
+// Writes the front of the first branch, up to its type, which waits, as do the others; or `}` where there is no branch.
 #[tactic(auto, using(crate::proofs::Written::left_more, crate::proofs::Written::weight_more, crate::proofs::Written::more_known, crate::proofs::Written::branches_more))]
 fn write_branches<'a>(
     roles: &Roles,
@@ -158,7 +159,7 @@ fn write_branches<'a>(
     }
 }
 
-// The next branch after another one, or `}`.
+// Writes what comes after a branch: `,` and the front of the next one, up to its type, or `}` where there is none.
 fn write_others<'a>(
     roles: &Roles,
     branches: &'a Branches,
@@ -183,7 +184,7 @@ fn write_others<'a>(
     write_branches(roles, branches, waiting, out)
 }
 
-// Writes what stands in front of the body of a `rec`.
+// Writes `rec`, the variable and `.`, which stand in front of a body. After an error some of them may stand in `out`.
 fn push_rec(out: &mut Vec<u8>, name: &VarName) -> Result<(), AllocError>
     ensures { OnOk result (out.new.items
         ≡ with_tokens out.old.items (codes "rec" ∷ name.now ∷ codes "." ∷ [])) }
@@ -193,7 +194,8 @@ fn push_rec(out: &mut Vec<u8>, name: &VarName) -> Result<(), AllocError>
     push_token(out, b".")
 }
 
-// Writes what stands in front of the type that follows an output or an input.
+// Writes the word, the peer, the sort and `.`, which stand in front of what follows an output or an input. After an
+// error some of them may stand in `out`.
 fn push_value(
     out: &mut Vec<u8>,
     roles: &Roles,
@@ -212,7 +214,8 @@ fn push_value(
     push_token(out, b".")
 }
 
-// Writes what stands in front of the branches of a choice.
+// Writes the word, the peer and `{`, which stand in front of the branches of a choice. After an error some of them may
+// stand in `out`.
 fn push_head(out: &mut Vec<u8>, roles: &Roles, word: &[u8], peer: Role) -> Result<(), AllocError>
     requires known { peer < length roles.now }
     ensures { OnOk result (out.new.items

@@ -15,7 +15,7 @@ use mps_base::{Message, Role, Step, StepId};
 use mps_links::least_dependent;
 
 impl Log {
-    /// The key of the step that has the number.
+    /// The key of the step that has the number, if it survives. The clause `sound` is for callers' proofs.
     #[inline(always)]
     pub fn by_id(&self, id: StepId) -> Option<Key>
         ensures key { result
@@ -25,7 +25,7 @@ impl Log {
         self.arena.by_id(id)
     }
 
-    /// The step of the key.
+    /// The step of the key, which has to be there.
     #[inline(always)]
     pub fn get(&self, key: Key) -> &Step
         requires { IsSome (keyed_at key self.now.keyed_steps) }
@@ -34,7 +34,8 @@ impl Log {
         self.arena.get(key)
     }
 
-    /// What was there before the step of the key.
+    /// What was there before the step of the key, which has to be there: where its role stood, and to what the name
+    /// that it binds was bound.
     #[inline(always)]
     pub fn before(&self, key: Key) -> Before
         requires { IsSome (keyed_at key self.now.keyed_steps) }
@@ -43,7 +44,7 @@ impl Log {
         self.arena.before(key)
     }
 
-    /// The newest step of the role.
+    /// The key of the role's newest step, if it has one.
     #[inline(always)]
     pub fn last_of(&self, role: Role) -> Option<Key>
         requires { role < 8 }
@@ -52,7 +53,8 @@ impl Log {
         self.arena.last_of(role)
     }
 
-    /// The role's next step; none where no step has the key.
+    /// The next step of the same role, if there is one; none where no step has the key. The clause `sound` is for
+    /// callers' proofs.
     #[inline(always)]
     pub fn next_of_role(&self, key: Key) -> Option<Key>
         ensures next { result ≡ next_of_role_in self.now.keyed_steps key }
@@ -61,7 +63,7 @@ impl Log {
         self.arena.next_of_role(key)
     }
 
-    /// The role's step before; none where no step has the key.
+    /// The previous step of the same role, if there is one; none where no step has the key.
     #[inline(always)]
     pub fn prev_of_role(&self, key: Key) -> Option<Key>
         ensures { result ≡ prev_of_role_in self.now.keyed_steps key }
@@ -78,7 +80,7 @@ impl Log {
         taken_at(&self.arena, key)
     }
 
-    /// The least number of another step that depends on this one.
+    /// The least number of another step that depends on this one, if one does.
     #[inline(always)]
     pub fn least_dependent(&self, id: StepId) -> Option<StepId>
         requires present { IsSome (step_of (steps self.now.keyed_steps) id) }

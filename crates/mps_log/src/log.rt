@@ -48,7 +48,8 @@ impl Model for Log {
     ghost invariant = { IsLog };
 }
 
-// The stores without the step of the key, which binds that name, or none: the name gets back what it was bound to.
+// Before a step is removed, undoes its binding in the stores: the name, if it binds one, gets back what it was bound
+// to.
 fn unbind(stores: &mut Stores, arena: &Arena, key: Key, name: Option<&Name>)
     requires can { CanGo arena.now.keyed_steps key }
     requires sound { AreSound arena.now.keyed_steps }
@@ -61,8 +62,8 @@ fn unbind(stores: &mut Stores, arena: &Arena, key: Key, name: Option<&Name>)
     }
 }
 
-// The queues and the stores without the step of the key: a send's message leaves its queue, a receipt's comes back to
-// the front, and the slot or the name that the step binds gets back what it was bound to.
+// Before a step is removed, undoes what it did to the queues and the stores: a send's message leaves its queue, a
+// receipt's comes back to the front, and the slot or the name that the step binds gets back what it was bound to.
 fn give_back(queues: &mut Queues, slots: &mut Stores, marks: &mut Stores, arena: &Arena, key: Key)
     requires can { CanGo arena.now.keyed_steps key }
     requires sound { AreSound arena.now.keyed_steps }
@@ -85,7 +86,7 @@ fn give_back(queues: &mut Queues, slots: &mut Stores, marks: &mut Stores, arena:
     }
 }
 
-// The message that the step of the key gave, if it gave one.
+// The message that the step of the key gave; none where it is no send or choice.
 pub(crate) fn message_at(arena: &Arena, key: Key) -> Option<&Message>
     requires { IsSome (keyed_at key arena.now.keyed_steps) }
     ensures { option_copied result ≡ message_of arena.now.keyed_steps key }
@@ -130,7 +131,7 @@ impl Log {
         })
     }
 
-    /// How many numbers were given out.
+    /// How many numbers were given out, also to steps that were removed since.
     #[inline(always)]
     pub fn issued(&self) -> usize
         ensures { result ≡ self.now.issued }
@@ -138,7 +139,7 @@ impl Log {
         self.arena.issued()
     }
 
-    /// How many steps there are.
+    /// How many steps there are. The clause `sound` is for callers' proofs.
     #[inline(always)]
     pub fn len(&self) -> usize
         ensures count { result ≡ length self.now.keyed_steps }
@@ -147,7 +148,7 @@ impl Log {
         self.arena.len()
     }
 
-    /// The k-th step, from 0. It takes O(k) time.
+    /// The k-th step, from 0, if there are so many. It takes O(k) time.
     pub fn step(&self, k: usize) -> Option<&Step>
         ensures { option_copied result ≡ slice_get (steps self.now.keyed_steps) k }
     {
@@ -162,7 +163,7 @@ impl Log {
         Moves::of(&self.arena)
     }
 
-    /// The steps with their links.
+    /// The arena, which has the steps with their links. The clause `sound` is for callers' proofs.
     pub fn steps(&self) -> &Arena
         ensures keyed_steps { result.now.keyed_steps ≡ self.now.keyed_steps }
         ensures issued { result.now.issued ≡ self.now.issued }
@@ -171,8 +172,8 @@ impl Log {
         &self.arena
     }
 
-    /// The k-th message that waits, from 0, of those that one role sent to another. It takes O(k) time. Any roles may
-    /// be named.
+    /// The k-th message that waits, from 0, of those that one role sent to another, if so many wait. It takes O(k)
+    /// time. Any roles may be named: for one that can't be there nothing waits.
     pub fn message(&self, from: Role, to: Role, k: usize) -> Option<&Message>
         ensures { option_copied result
             ≡ slice_get (unreceived from to (steps self.now.keyed_steps)) k }
@@ -185,8 +186,8 @@ impl Log {
         message_at(arena, key)
     }
 
-    /// The first message that waits, of those that one role sent to another, with the number of the step that gave it.
-    /// Any roles may be named.
+    /// The first message that waits, of those that one role sent to another, with the number of the step that gave it,
+    /// if one waits. Any roles may be named: for one that can't be there nothing waits.
     pub fn first_sent(&self, from: Role, to: Role) -> Option<(StepId, &Message)>
         ensures message { option_map (λ sent. sent.1.now) result
             ≡ slice_get (unreceived from to (steps self.now.keyed_steps)) 0 }
@@ -204,11 +205,13 @@ impl Log {
         let step = arena.get(key);
         match &step.act {
             Act::Out { message, .. } => Some((step.id, message)),
+            // never: the front of a queue is a send
             _ => None,
         }
     }
 
-    /// What the role keeps in the slot: the value that the newest receipt into it took.
+    /// What the role keeps in the slot: the value that the newest receipt into it took; none where the slot isn't
+    /// bound.
     pub fn value(&self, role: Role, slot: &Name) -> Option<&Value>
         requires { role < 8 }
         ensures { option_copied result ≡ kept_in self.now.keyed_steps role slot.now }
@@ -217,7 +220,7 @@ impl Log {
         value_at(&self.arena, receipt)
     }
 
-    /// The key of the role's last mark of the name.
+    /// The key of the role's last mark of the name, if it has one.
     pub fn last_mark(&self, role: Role, name: &Name) -> Option<Key>
         requires { role < 8 }
         ensures { result ≡ last_mark self.now.keyed_steps role name.now }
@@ -233,7 +236,8 @@ impl Log {
         self.slots.count(role)
     }
 
-    /// The role's slot that was bound as the k-th, from 0, and the value that it keeps there.
+    /// The role's slot that was first bound as the k-th, from 0, and the value that it keeps there, if so many are
+    /// bound.
     pub fn binding(&self, role: Role, k: usize) -> Option<(&Name, &Value)>
         requires { role < 8 }
         ensures { option_map (deref_pair {K = List ℕ} {X = Value}) result
@@ -245,7 +249,8 @@ impl Log {
         Some((bound.0, value))
     }
 
-    /// The messages that wait, in order, of those that one role sent to another. Any roles may be named.
+    /// The messages that wait, in order, of those that one role sent to another. Any roles may be named: for one that
+    /// can't be there nothing waits.
     pub fn waiting(&self, from: Role, to: Role) -> Queue<'_>
         ensures { result ≡ unreceived from to (steps self.now.keyed_steps) }
     {
@@ -257,7 +262,8 @@ impl Log {
         Queue::of(arena, from, to, first)
     }
 
-    /// Puts a send or a choice after all other steps, with the next number. The role stood at the node `at`.
+    /// Puts a send or a choice after all other steps, with the next number. The role stood at the node `at` of its
+    /// table.
     #[inline(always)]
     pub fn send(
         &mut self,
@@ -273,14 +279,15 @@ impl Log {
         ensures err { OnErr result (self.new ≡ self.old) }
     {
         let key = self.arena.reserve_one()?;
+        // nothing fails from here on
         self.queues.push(role, to, key);
         let act = Act::Out { to, message };
         let before = Before { at, bound: None };
         Ok(self.arena.add(role, act, before, None))
     }
 
-    /// Puts a receipt or a pick after all other steps, with the next number. It takes the first message that waits. A
-    /// receipt has a slot, which is bound to it. The role stood at the node `at`.
+    /// Puts a receipt or a pick after all other steps, with the next number. It takes the first message that waits, and
+    /// there has to be one. A receipt has a slot, which is bound to it. The role stood at the node `at` of its table.
     pub fn receive(
         &mut self,
         role: Role,
@@ -300,13 +307,14 @@ impl Log {
             Some(slot) => self.slots.bind(role, slot, key)?,
             None => None,
         };
+        // nothing fails from here on
         let source = self.queues.take(&self.arena, from, role);
         let slot = slot.copied();
         let act = Act::In { from, slot };
         Ok(self.arena.add(role, act, Before { at, bound }, source))
     }
 
-    /// Puts a mark after all other steps, with the next number. The role stood at the node `at`.
+    /// Puts a mark after all other steps, with the next number. The role stood at the node `at` of its table.
     pub fn mark(&mut self, role: Role, name: Name, at: u16) -> Result<StepId, AllocError>
         requires { role < 8 }
         ensures id { IfOk result (λ id. id ≡ self.old.issued + 1) }
@@ -319,22 +327,23 @@ impl Log {
         Ok(self.arena.add(role, act, Before { at, bound }, None))
     }
 
-    /// Puts a commit after all other steps, with the next number. The role stood at the node `at`.
+    /// Puts a commit after all other steps, with the next number. The role stood at the node `at` of its table.
     pub fn commit(&mut self, role: Role, at: u16) -> Result<StepId, AllocError>
         requires { role < 8 }
         ensures id { IfOk result (λ id. id ≡ self.old.issued + 1) }
         ensures joined { OnOk result (HasJoined self.old self.new role Commit at) }
         ensures err { OnErr result (self.new ≡ self.old) }
     {
+        // the key isn't needed: a commit is in no queue and no store
         self.arena.reserve_one()?;
         self.had_commit = true;
         let before = Before { at, bound: None };
         Ok(self.arena.add(role, Act::Commit, before, None))
     }
 
-    /// Removes a step that is the last of its role and, if it is a send or a choice, isn't received. Its message
-    /// leaves the queue, or comes back to its front; its slot, or the name that it marks, gets back what it was bound
-    /// to.
+    /// Removes a step that is the last of its role and, if it is a send or a choice, isn't received, and gives it. Its
+    /// message leaves the queue, or comes back to its front; its slot, or the name that it marks, gets back what it was
+    /// bound to. It does not allocate.
     pub fn remove(&mut self, key: Key) -> Step
         requires { CanGo self.old.keyed_steps key }
         ensures step { option_map (λ e. e.step) (keyed_at key self.old.keyed_steps) ≡ Some result }

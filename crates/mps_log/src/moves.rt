@@ -32,7 +32,7 @@ impl<'a> Model for Moves<'a> {
 }
 
 impl<'a> Moves<'a> {
-    /// All steps of the arena of a log.
+    /// All steps of a log's arena, each with the message that it gave or took.
     pub(crate) fn of(arena: &'a Arena) -> Moves<'a>
         requires { AreSound arena.now.keyed_steps }
         ensures { result ≡ shown arena.now.keyed_steps arena.now.keyed_steps }
@@ -51,6 +51,7 @@ impl<'a> Iterator for Moves<'a> {
 
     ghost remaining = { item_count (λ left. left) };
 
+    // The oldest step that is left, with the message that it gave or took.
     fn next(&mut self) -> Option<(&'a Step, Option<&'a Message>)> {
         let key = self.at?;
         let arena = self.arena;

@@ -56,10 +56,12 @@ impl<'a> Iterator for Queue<'a> {
 
     ghost remaining = { item_count (λ left. left) };
 
+    // The message that was sent first of those that are left.
     fn next(&mut self) -> Option<&'a Message> {
         let key = self.at?;
         let arena = self.arena;
         self.at = arena.next_send(key);
+        // each key that the walk comes to is a send's
         let Some(message) = message_at(arena, key) else {
             unreachable!()
         };

@@ -44,7 +44,7 @@ pub fn a_verdict_is_local()
         ≡ fault others other p (commands.Forward step) }
 {}
 
-/// What was queued is what was sent and isn't yet received.
+/// As many messages wait between two roles as the one has sent and the other hasn't received.
 pub fn queues_count()
     ensures { (types : List LocalType) (h : List Step) (v : View) (p q : ℕ)
         → replay (opening types) h ≡ Some v
@@ -57,7 +57,8 @@ pub fn queues_are_what_is_unreceived()
         → replay (opening types) h ≡ Some v → v.queue p q ≡ unreceived p q h }
 {}
 
-/// Neighbours of different roles may be exchanged, unless the second receives what the first sends.
+/// Neighbours of different roles may be exchanged, unless the second receives what the first sends: the replay comes to
+/// the same view.
 pub fn neighbours_commute()
     ensures { (types : List LocalType) (a b : List Step) (s t : Step) (w : View) →
         replay (opening types) (a ++ s ∷ t ∷ b) ≡ Some w → s.role ≢ t.role

@@ -29,9 +29,8 @@ pub enum Advance {
     Into(usize),
 }
 
-/// How a role goes on that expects this, or the first reason why the step is not allowed. The
-/// message is the first that waits from the peer whom the step names, if one does. Nothing is
-/// allocated.
+/// How a role that expects this goes on, or the first reason why the step is not allowed. `first` is the first message
+/// that waits from the peer whom the step names, if one does. Nothing is allocated.
 #[inline(always)]
 pub fn judge(
     expected: Expect<'_>,
@@ -77,14 +76,15 @@ pub fn judge(
     }
 }
 
-/// The message that a command moves is the machine's, where the first that waits from its peer is
-/// looked at.
+/// The message that a command moves by `moved_by`, with the first that waits from its peer, is the one that it moves in
+/// the machine.
 pub fn the_machine_moves_the_same()
     ensures { (v : View) (p : ℕ) (step : Forwarded)
         → moved v p (act_of step) ≡ moved_by step (waiting_from v p (peer_of step)) }
 {}
 
-// The verdict on giving a value, where the peer is expected to get one of the sort.
+// Whether a role may send the value to `to`, where its type has it send one of the sort to `peer`. `WrongPeer` comes
+// before `WrongSort`.
 fn judge_send(peer: Role, sort: Sort, to: Role, value: &Value) -> Result<Advance, Violation>
     ensures { IsVerdict (Sends peer sort) (acts.Out to (messages.Value value.now))
         (Some (messages.Value value.now)) result }
@@ -98,7 +98,8 @@ fn judge_send(peer: Role, sort: Sort, to: Role, value: &Value) -> Result<Advance
     Ok(Advance::Next)
 }
 
-// The verdict on choosing a label, where the peer is expected to get one of these.
+// Whether a role may choose the label and tell `to`, where its type has it choose one of the labels and tell `peer`.
+// `WrongPeer` comes before `NoLabel`.
 #[tactic(auto, using(crate::proofs::Labels::a_label, crate::proofs::Labels::not_a_label))]
 fn judge_choice(peer: Role, labels: &[Name], to: Role, label: &Name) -> Result<Advance, Violation>
     ensures { IsVerdict (Chooses peer labels.now) (acts.Out to (messages.Label label.now))
@@ -113,7 +114,8 @@ fn judge_choice(peer: Role, labels: &[Name], to: Role, label: &Name) -> Result<A
     }
 }
 
-// The verdict on taking a value, where the peer is expected to have given one of the sort.
+// Whether a role may take a value from `from`, where its type has it take one of the sort from `peer`, and `first` is
+// what waits first from `from`. A label, or a value of another sort, is a `Mismatch`.
 fn judge_receipt(
     peer: Role,
     sort: Sort,
@@ -133,7 +135,8 @@ fn judge_receipt(
     }
 }
 
-// The verdict on taking a label, where the peer is expected to have chosen one of these.
+// Whether a role may take a label from `from`, where its type has it take one of the labels from `peer`, and `first` is
+// what waits first from `from`. A value, or another label, is a `Mismatch`.
 #[tactic(auto, using(crate::proofs::Labels::a_label, crate::proofs::Labels::not_a_label))]
 fn judge_pick(
     peer: Role,
@@ -157,7 +160,7 @@ fn judge_pick(
     }
 }
 
-// The first place at which the label stands.
+// The first place at which the label stands, if it does.
 fn place_of_label(labels: &[Name], label: &Name) -> Option<usize>
     ensures { result ≡ place_of_label labels.now label.now }
 {

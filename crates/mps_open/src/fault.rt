@@ -38,6 +38,7 @@ pub enum Fault {
 impl From<AllocError> for Fault {
     ghost from_gives = { λ _ fault. fault ≡ OutOfMemory };
 
+    // A failed allocation is `Memory`.
     fn from(_: AllocError) -> Fault {
         Fault::Memory
     }
@@ -46,6 +47,7 @@ impl From<AllocError> for Fault {
 impl From<TextFault> for Fault {
     ghost from_gives = { λ f fault. fault ≡ of_text f.at f.kind };
 
+    // A text's fault is why it gives no session; lack of memory is `Memory`, without a byte.
     fn from(fault: TextFault) -> Fault {
         match fault.kind {
             TextKind::Memory => Fault::Memory,
@@ -57,14 +59,15 @@ impl From<TextFault> for Fault {
 impl From<GlobalFault> for Fault {
     ghost from_gives = { λ f fault. fault ≡ InProtocol f };
 
+    // A protocol's fault is why its text gives no session.
     fn from(fault: GlobalFault) -> Fault {
         Fault::Protocol(fault)
     }
 }
 
 impl Fault {
-    /// Its number, for callers that have no enums: 1 for memory, 16 to 21 for a text, 32 to 43 for a protocol, and 48
-    /// plus the place of the role, from 0, for a projection. Each in the order of docs/FORMATS.md.
+    /// The number of the fault, for callers that have no enums: 1 for memory, 16 to 21 for a text, 32 to 43 for a
+    /// protocol, and 48 plus the place of the role, from 0, for a projection. Each in the order of docs/FORMATS.md.
     pub fn number(&self) -> u32
         ensures { result ≡ number_of self.now }
     {
@@ -76,7 +79,7 @@ impl Fault {
         }
     }
 
-    /// The byte of the text at which it is, or the choice that has no projection, else 0.
+    /// The byte of the text at which the fault is, or the number of the choice that has no projection, else 0.
     pub fn place(&self) -> u64
         ensures { result ≡ place_of self.now }
     {
@@ -88,7 +91,7 @@ impl Fault {
     }
 }
 
-// The number of a fault of a text.
+// The number of a fault of a text; lack of memory has the same one everywhere.
 fn text_number(kind: TextKind) -> u32
     ensures { result ≡ text_number kind }
 {

@@ -32,7 +32,7 @@ pub struct Opening {
     ghost projected: { AreProjections protocol.roles.items (global_type protocol.body) (map plain types.items) } by { Prim.hlevel (codes, coded_local) },
 }
 
-// The roles of a protocol without faults.
+// The roles of a protocol without faults. Only memory may be lacking.
 fn roles_of(alloc: Global, protocol: &Protocol) -> Result<Roles, AllocError>
     requires { fault_of protocol.now.roles.items (global_type protocol.now.body) ≡ None }
     ensures { IfOk result (λ roles. roles ≡ protocol.now.roles.items) }
@@ -40,12 +40,13 @@ fn roles_of(alloc: Global, protocol: &Protocol) -> Result<Roles, AllocError>
     match Roles::of(alloc, protocol.roles.as_slice()) {
         Ok(roles) => Ok(roles),
         Err(RoleFault::Memory) => Err(AllocError),
+        // a protocol without faults has 2 to 8 roles of different names
         Err(RoleFault::RoleCount) => unreachable!(),
         Err(RoleFault::DoubleRole) => unreachable!(),
     }
 }
 
-// Why a protocol without faults gives no types.
+// Why a protocol without faults gives no types: memory ran out, or a role has no projection, which is named too.
 fn unprojected(protocol: &Protocol, fault: ProjectFault) -> Fault
     requires faultless { fault_of protocol.now.roles.items (global_type protocol.now.body) ≡ None }
     requires fault { AreNotAll protocol.now.roles.items (global_type protocol.now.body) fault }
@@ -62,7 +63,8 @@ fn unprojected(protocol: &Protocol, fault: ProjectFault) -> Fault
 }
 
 impl Opening {
-    /// What the sessions of the protocol begin with. The protocol is checked, and then projected to each of its roles.
+    /// What the sessions of the protocol begin with. The protocol is checked, and then projected to each of its roles;
+    /// where that fails, it is dropped.
     pub fn of(alloc: Global, protocol: Protocol) -> Result<Opening, Fault>
         ensures protocol { IfOk result (λ opening. opening.protocol ≡ protocol) }
         ensures fault { IfErr result (GivesNoOpening protocol.roles.items (global_type protocol.body)) }
@@ -80,7 +82,8 @@ impl Opening {
         })
     }
 
-    /// The same of the protocol that the text spells.
+    /// What the sessions of the protocol that the text spells begin with. The text is read first, and the protocol
+    /// checked then.
     pub fn of_text(alloc: Global, text: &[u8]) -> Result<Opening, Fault>
         ensures read { IfOk result (λ opening.
             IsProtocolText text.now opening.protocol.roles.items (global_type opening.protocol.body)) }
@@ -91,7 +94,8 @@ impl Opening {
         Opening::of(alloc, protocol)
     }
 
-    /// A new session. No command is refused there with `Mismatch`, whatever the roles do.
+    /// A new session of the protocol, with copies of the types. No command is refused there with `Mismatch`, whatever
+    /// the roles do.
     pub fn session(&self, alloc: Global) -> Result<Session, AllocError>
         ensures new { IfOk result (λ s. s ≡ record { types = map plain self.now.types.items; state = initial }) }
         ensures of_one_protocol { IfOk result (λ s. AreOfOneProtocol s.types) }
@@ -99,7 +103,7 @@ impl Opening {
         open_types(alloc, copy_all(alloc, &self.types)?)
     }
 
-    /// The names of the roles, and a new session: the only one that is opened.
+    /// The names of the roles, and a new session of the protocol, which takes the types: the only one that is opened.
     pub fn into_session(self, alloc: Global) -> Result<(Roles, Session), AllocError>
         ensures roles { IfOk result (λ r. r.0 ≡ self.roles) }
         ensures new { IfOk result (λ r. r.1 ≡ record { types = map plain self.types.items; state = initial }) }

@@ -3,7 +3,7 @@ use Rattle.std.specs.Prelude.{◌≡◌, ◌⊎◌, ⊤, ℕ, List, Option, None
 use Rattle.mps_hub.specs.Places.{IsSession}
 use Rattle.mps_keeper.specs.declared.restore.RestoreFault.{RestoreFault}
 use Rattle.mps_keeper.specs.declared.restore.RestoreFault.TheVariants.{Read as NotRead, Memory as OutOfMemory}
-use Rattle.mps_keeper.specs.declared.restore.RestoreFault.TheVariants.{Unreadable, Refused}
+use Rattle.mps_keeper.specs.declared.restore.RestoreFault.TheVariants.{Changed, Unreadable, Refused}
 use Rattle.mps_program.specs.declared.faults.ToolFault.{ToolFault}
 use Rattle.mps_program.specs.declared.faults.ToolFault.TheVariants.{File, JournalFile, JournalLine, JournalProtocol}
 use Rattle.mps_program.specs.declared.faults.ToolFault.TheVariants.{JournalLost, Memory}
@@ -41,6 +41,7 @@ of_restoring session NotRead = JournalLost session
 of_restoring session OutOfMemory = Memory
 of_restoring session (Unreadable line) = JournalLine session line
 of_restoring session (Refused line) = JournalLine session line
+of_restoring session (Changed line) = JournalLine session line
 
 -- how many of so many sessions are recorded, by the folder, if there is one
 abbrev pub recorded_of : Option (List ℕ) → ℕ → ℕ

@@ -20,7 +20,7 @@ use std::alloc::{AllocError, Global};
 use std::io;
 use std::rt::Files;
 
-/// A line for each role: its name, ` : `, and its local type.
+/// A line for each role, in order: its name, ` : `, and its local type.
 pub fn lines_of(alloc: Global, opening: &Opening) -> Result<Vec<u8>, AllocError>
     ensures { IfOk result (λ out. out.items ≡ role_lines opening.now.roles 0 (map plain opening.now.types.items)) }
 {
@@ -29,7 +29,8 @@ pub fn lines_of(alloc: Global, opening: &Opening) -> Result<Vec<u8>, AllocError>
     Ok(out)
 }
 
-// Writes a line for each role from that place on at the end.
+// Writes the lines of the roles from that place on, which have these types, at the end of `out`. After an error some of
+// them may stand there.
 fn write_lines(
     alloc: Global,
     out: &mut Vec<u8>,
@@ -53,7 +54,7 @@ fn write_lines(
     }
 }
 
-// Writes the line of the role at that place at the end.
+// Writes the line of the role at that place at the end of `out`. After an error a part of it may stand there.
 fn write_role(
     alloc: Global,
     out: &mut Vec<u8>,
@@ -68,6 +69,7 @@ fn write_role(
         ≡ out.old.items ++ role_line roles.now place (plain t.now)) }
 {
     let text = write_local(alloc, roles, t)?;
+    // places of roles are below 8, so they fit
     out.extend_from_slice(roles.name(Role::new(place as u8)).as_bytes())?;
     out.extend_from_slice(b" : ")?;
     out.extend_from_slice(&text)?;
@@ -77,7 +79,7 @@ fn write_role(
 
 /// Reads a protocol, and writes a line for each role: its name, ` : `, and its local type.
 ///
-/// All is read and checked before the first byte is written.
+/// All is read and checked before the first byte is written. Where a write fails, a front of the lines may be written.
 pub fn write_types<'a, R: Source, W: Sink>(
     alloc: Global,
     reader: &mut R,

@@ -27,7 +27,8 @@ pub struct Tallies {
     pub second: Tally,
 }
 
-// Runs the script in a room of the session with a copy of the roles, and gives the room. The answers are counted.
+// Runs the script in a room of the session with a copy of the roles, and gives the room. The answers are counted by
+// `tally`, and not kept.
 fn run_on_copy<'a, R: Source>(
     alloc: Global,
     reader: &mut R,
@@ -49,7 +50,7 @@ fn run_on_copy<'a, R: Source>(
     Ok(replay_session(alloc, reader, tally, names, session)?)
 }
 
-// The line and the status that say whether two sessions are the same.
+// The line and the status that say whether two sessions are the same: `same` and 0, or `different` and 1.
 fn told(alloc: Global, alike: bool) -> Result<(Vec<u8>, u8), AllocError>
     ensures { IfOk result (λ r. Tells (IsTrue alike) r.0.items r.1) }
 {
@@ -60,7 +61,7 @@ fn told(alloc: Global, alike: bool) -> Result<(Vec<u8>, u8), AllocError>
     }
 }
 
-// Runs the script on a new session, and says whether it is then the same as the first.
+// Runs the script on a new session, and says by a line and a status whether it is then the same as the first.
 fn compared<'a, S: Source>(
     alloc: Global,
     roles: &Roles,
@@ -83,9 +84,10 @@ fn compared<'a, S: Source>(
     Ok(told(alloc, same(first, second.session()))?)
 }
 
-/// Runs one script whole and then another, each on a new session of its own, and says whether
-/// the sessions are then causally the same, whatever the order across roles and the numbers: by the
-/// line `same` and the status 0, or the line `different` and the status 1. The answers to each script are counted.
+/// Runs one script whole and then another, each on a new session of its own, and says whether the sessions are then
+/// causally the same, whatever the order across roles and the numbers: by the line `same` and the status 0, or the line
+/// `different` and the status 1. The answers to each script are counted. Where the first breaks off, nothing of the
+/// second is read.
 pub fn verdict_of<'a, R: Source, S: Source>(
     alloc: Global,
     roles: &Roles,
@@ -118,6 +120,7 @@ pub fn verdict_of<'a, R: Source, S: Source>(
 // Tells on standard error how many lines of that script were refused.
 fn tell_refused<R: Eprint>(rt: &R, which: &str, tally: &Tally) {
     let (refused, lines) = (tally.refused(), tally.lines());
+    // the verdict is the same where this can't be told
     let _told = eprintln!(rt; "{which} script: {refused} of {lines} lines refused");
 }
 

@@ -37,7 +37,7 @@ pub fn carry_out<'a, R: Files + Input + AllocGlobal + Print + Eprint>(
     told(work_on(rt, task, verbose), verbose)
 }
 
-// Carries out a task. A fault says what the system says of it.
+// Carries out a task, and gives the exit status. A fault says what the system says of it.
 fn work_on<'a, R: Files + Input + AllocGlobal + Print + Eprint>(
     rt: &R,
     task: Task<'a>,
@@ -86,6 +86,7 @@ pub fn obey<
     ensures status { IfOk result (λ status. status ≤ 1) }
     ensures opened { IfErr result (λ fault. fault ≢ NoSession) }
 {
+    // held to the end, so that no file or connection gets a closed standard stream's descriptor
     let _taken = closed_streams(rt);
     match order(rt.alloc(), words)? {
         Order::Serve {
@@ -116,7 +117,8 @@ pub fn obey<
     }
 }
 
-// Prints the line of the fault, or its display, which does not allocate.
+// Prints the line of the fault. Where there is no memory for it, what is displayed of the fault is printed, without
+// allocating.
 fn report_line<R: AllocGlobal + Eprint>(rt: &R, fault: &ToolFault<'_>) -> io::Result<()> {
     if let Ok(line) = fault_line(rt.alloc(), fault) {
         if let Ok(text) = str::from_utf8(line.as_slice()) {
@@ -126,7 +128,7 @@ fn report_line<R: AllocGlobal + Eprint>(rt: &R, fault: &ToolFault<'_>) -> io::Re
     eprintln!(rt; "{fault}")
 }
 
-// Prints what went wrong, and what the system says of it, if it says something.
+// Prints what went wrong, and after it what the system says of it, if it says something.
 fn report<R: AllocGlobal + Eprint>(rt: &R, fault: &ToolFault<'_>) -> io::Result<()> {
     report_line(rt, fault)?;
     match reason_of(fault) {
@@ -135,7 +137,7 @@ fn report<R: AllocGlobal + Eprint>(rt: &R, fault: &ToolFault<'_>) -> io::Result<
     }
 }
 
-/// Prints what went wrong, if that can be printed, and gives the exit status.
+/// Prints what went wrong, and gives the exit status, which is the same where it can't be printed.
 pub fn end<R: AllocGlobal + Eprint>(rt: &R, fault: &ToolFault<'_>) -> ExitCode
     ensures { exit_status result ≡ status_of fault.now }
 {
@@ -143,7 +145,7 @@ pub fn end<R: AllocGlobal + Eprint>(rt: &R, fault: &ToolFault<'_>) -> ExitCode
     ExitCode::from(status(fault))
 }
 
-/// Ends after what was done: with its status, or with that of its fault, which is told.
+/// Ends after what was done: gives the exit status, its own or that of its fault, which is printed.
 pub fn end_after<R: AllocGlobal + Eprint>(rt: &R, done: Result<u8, ToolFault<'_>>) -> ExitCode
     ensures { exit_status result ≡ status_after done.entry }
 {
@@ -153,8 +155,8 @@ pub fn end_after<R: AllocGlobal + Eprint>(rt: &R, done: Result<u8, ToolFault<'_>
     }
 }
 
-/// Has the work done on the words that the program is called with, and ends after it. Where the words
-/// can't be had, nothing is done.
+/// Has the work done on the words that the program is called with, and ends after it. Where the words can't be had,
+/// nothing is done, and the status is that of a fault of use or of memory.
 pub fn end_with<R, F>(rt: &R, work: F) -> ExitCode
 where
     R: Env + AllocGlobal + Eprint,

@@ -85,6 +85,7 @@ pub enum ToolFault<'a> {
 impl From<AllocError> for ToolFault<'_> {
     ghost from_gives = { λ _ fault. fault ≡ OutOfMemory };
 
+    // A failed allocation is `Memory`.
     fn from(_: AllocError) -> Self {
         ToolFault::Memory
     }
@@ -93,6 +94,7 @@ impl From<AllocError> for ToolFault<'_> {
 impl<T: Drop> From<AllocFailed<T>> for ToolFault<'_> {
     ghost from_gives = { λ _ fault. fault ≡ OutOfMemory };
 
+    // A failed allocation is `Memory`; what it gives back is dropped.
     fn from(_: AllocFailed<T>) -> Self {
         ToolFault::Memory
     }
@@ -101,6 +103,7 @@ impl<T: Drop> From<AllocFailed<T>> for ToolFault<'_> {
 impl From<UseFault> for ToolFault<'_> {
     ghost from_gives = { λ f fault. fault ≡ of_use f };
 
+    // A fault of use, as the program tells it.
     fn from(fault: UseFault) -> Self {
         match fault {
             UseFault::Usage { text } => ToolFault::Usage { text },
@@ -112,6 +115,7 @@ impl From<UseFault> for ToolFault<'_> {
 impl From<Fault> for ToolFault<'_> {
     ghost from_gives = { λ f fault. fault ≡ of_opening f };
 
+    // Why a text gives no session, as the program tells it: a role by its name.
     fn from(fault: Fault) -> Self {
         match fault {
             Fault::Text { at, kind } => ToolFault::Text { at, kind },
@@ -125,6 +129,7 @@ impl From<Fault> for ToolFault<'_> {
 impl From<ReplayFault> for ToolFault<'_> {
     ghost from_gives = { λ f fault. fault ≡ of_script f };
 
+    // Why a script was not run to its end, as the program tells it. What the system says of a read isn't known here.
     fn from(fault: ReplayFault) -> Self {
         match fault {
             ReplayFault::Open(_) => ToolFault::Open,
@@ -136,7 +141,7 @@ impl From<ReplayFault> for ToolFault<'_> {
     }
 }
 
-// The name as text.
+// The name as a `str`: its bytes are ASCII.
 fn text_of(name: &Name) -> &str
     ensures { result.now ≡ name.now }
 {
@@ -184,6 +189,7 @@ fn protocol_word_of(fault: GlobalFault) -> &'static str
 impl fmt::Display for ToolFault<'_> {
     ghost output = { λ fault. Some (fault_text fault) };
 
+    // Writes the line that tells the fault, without a line break at its end. It does not allocate.
     fn fmt<W: fmt::Write>(&self, f: &mut fmt::Formatter<W>) -> fmt::Result {
         match self {
             ToolFault::Usage { text } => f.write_str(text.as_str()),
@@ -225,7 +231,7 @@ pub fn fault_line(alloc: Global, fault: &ToolFault<'_>) -> Result<Vec<u8>, Alloc
     Ok(fault.to_string(alloc)?.into_bytes())
 }
 
-/// What the system says of a fault of a file, of the port or of a journal.
+/// What the system says of a fault of a file, of the port or of a journal, if it is kept.
 pub(crate) fn reason_of<'f>(fault: &'f ToolFault<'_>) -> Option<&'f io::Error> {
     match fault {
         ToolFault::File { why, .. } => why.as_ref(),
@@ -251,7 +257,7 @@ pub(crate) fn without_reason<'a>(fault: ToolFault<'a>) -> ToolFault<'a>
     }
 }
 
-/// The fault, with what the system said where a read failed, if it said something.
+/// The fault. Where it is a failed read, it gets what the system said, if it said something.
 pub(crate) fn with_reason<'a>(fault: ToolFault<'a>, why: Option<io::Error>) -> ToolFault<'a>
     ensures said { result ≡ told_with why fault.entry }
     ensures same { IsSameButForReads fault.entry result }
@@ -262,7 +268,7 @@ pub(crate) fn with_reason<'a>(fault: ToolFault<'a>, why: Option<io::Error>) -> T
     }
 }
 
-/// What was done. A fault says what the system says of it only where more is to be told (`verbose`).
+/// What was done. Where less is to be told (not `verbose`), a fault loses what the system says of it.
 pub(crate) fn told<'a, T>(done: Result<T, ToolFault<'a>>, verbose: bool) -> Result<T, ToolFault<'a>>
     ensures told { result ≡ as_told verbose done.entry }
     ensures ok { IfOk result (λ x. done.entry ≡ Ok x) }

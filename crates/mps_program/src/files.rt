@@ -24,7 +24,8 @@ const STANDARD_STREAMS: i32 = 3;
 // The name by which a script is the standard input.
 const STANDARD_INPUT: &str = "-";
 
-// A descriptor that can neither be read nor written, if it is that of a standard stream.
+// Opens `/`, and keeps it if it gets the descriptor of a standard stream, which was closed then. It can neither be read
+// nor written.
 fn placeholder<R: Files<File = File>>(rt: &R) -> Option<File> {
     let root = File::open(rt, "/").ok()?;
     if root.as_raw_fd() < STANDARD_STREAMS {
@@ -40,7 +41,7 @@ pub(crate) fn closed_streams<R: Files<File = File>>(rt: &R) -> [Option<File>; 3]
     [placeholder(rt), placeholder(rt), placeholder(rt)]
 }
 
-// Opens the file of that name.
+// Opens the file of that name. The fault has the name and what the system says.
 fn opened<'a, R: Files>(rt: &R, name: &'a str) -> Result<R::File, ToolFault<'a>>
     ensures fault { IfErr result (IsFileFault name.now) }
 {
@@ -61,6 +62,7 @@ pub(crate) enum Script<F, I> {
 }
 
 impl<F: Read, I: Read> Read for Script<F, I> {
+    // Reads from the file, or from the standard input.
     fn read(&mut self, buf: &mut [u8]) -> io::Result<usize> {
         match self {
             Script::File(file) => file.read(buf),
@@ -77,11 +79,12 @@ pub struct Noted<R> {
 }
 
 impl<R> Noted<R> {
+    // A reader of which no read has failed yet.
     fn new(reader: R) -> Noted<R> {
         Noted { reader, why: None }
     }
 
-    // Keeps what the system said, and gives its kind.
+    // Keeps the error, which an `OverRead` around this drops, and gives one of its kind in its place.
     fn note(&mut self, error: io::Error) -> io::Error {
         let kind = error.kind();
         self.why = Some(error);
@@ -90,6 +93,7 @@ impl<R> Noted<R> {
 }
 
 impl<R: Read> Read for Noted<R> {
+    // Reads once. Of a failed read what the system said is kept.
     fn read(&mut self, buf: &mut [u8]) -> io::Result<usize> {
         match self.reader.read(buf) {
             Ok(count) => Ok(count),
@@ -98,7 +102,8 @@ impl<R: Read> Read for Noted<R> {
     }
 }
 
-/// What was done with the reader, and where a read failed, what the system said of it.
+/// What was done with the reader. Where a read failed, the fault gets what the system said of it, which the reader has
+/// kept.
 pub(crate) fn say_why<'a, T, R: Drop>(
     done: Result<T, ToolFault<'a>>,
     reader: OverRead<Noted<R>>,
@@ -131,7 +136,7 @@ pub(crate) fn open_script<'a, R: Files + Input>(
     Ok(OverRead::new(Noted::new(Script::File(opened(rt, name)?))))
 }
 
-/// Opens the file, of which nothing was read yet.
+/// Opens the file of that name, of which nothing was read yet.
 pub fn open_file<'a, R: Files>(
     rt: &R,
     name: &'a str,
@@ -142,7 +147,7 @@ pub fn open_file<'a, R: Files>(
     Ok(OverRead::new(Noted::new(opened(rt, name)?)))
 }
 
-/// Reads a text to its end, or one byte more of it than a protocol may have.
+/// Reads a text to its end, or one byte more of it than a protocol may have, which tells that it is too long.
 pub fn read_text<'a, R: Source>(alloc: Global, reader: &mut R) -> Result<Vec<u8>, ToolFault<'a>>
     requires { R.calls reader.old < 2 ^ 62 }
     ensures bytes { IfOk result
@@ -158,6 +163,7 @@ pub fn read_text<'a, R: Source>(alloc: Global, reader: &mut R) -> Result<Vec<u8>
     let mut text = Vec::new(alloc);
     let mut block = vec![in alloc; 0u8; MAX_TEXT_BYTES + 1]?;
     while text.len() <= MAX_TEXT_BYTES {
+        // as much as may still come, so that no more than that is read
         block.truncate(MAX_TEXT_BYTES + 1 - text.len());
         if read_more(reader, block.as_mut_slice(), &mut text)? == 0 {
             return Ok(text);
@@ -166,7 +172,7 @@ pub fn read_text<'a, R: Source>(alloc: Global, reader: &mut R) -> Result<Vec<u8>
     Ok(text)
 }
 
-// Reads once, and puts what was read after the text. Gives the number of bytes.
+// Reads once, and puts what was read after the text. Gives the number of bytes, which is 0 at the end.
 fn read_more<'a, R: Source>(
     reader: &mut R,
     block: &mut [u8],
@@ -193,7 +199,7 @@ fn read_more<'a, R: Source>(
     Ok(count)
 }
 
-/// Writes the bytes, or the front of them.
+/// Writes the bytes. Where a write fails, a front of them may be written.
 pub(crate) fn tell<'a, W: Sink>(writer: &mut W, bytes: &[u8]) -> Result<(), ToolFault<'a>>
     requires { W.failed_calls writer.old < 2 ^ 63 }
     ensures told { OnOk result (Appends (W.taken writer.old) (W.taken writer.new) bytes.now) }

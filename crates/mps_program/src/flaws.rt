@@ -92,7 +92,7 @@ const FORMS: &[Form] = &[
     },
 ];
 
-/// Why the line spells no command of one of the roles, if it spells none and there is memory to read it.
+/// Why the line spells no command of one of the roles; none where it spells one, or there is no memory to read it.
 pub(crate) fn flaw_of(alloc: Global, roles: &Roles, line: &Line) -> Option<&'static str> {
     match line {
         Line::TooLong => Some("a line has 512 bytes at most"),
@@ -113,7 +113,7 @@ fn reason(roles: &Roles, line: &[u8]) -> &'static str {
     }
 }
 
-// Whether a comment begins so elsewhere.
+// Whether the bytes begin as comments do in other languages.
 fn begins_comment(bytes: &[u8]) -> bool {
     match bytes {
         [b'#' | b';' | b'%', ..] => true,
@@ -137,7 +137,7 @@ fn flaw_of_bytes(line: &[u8]) -> Option<&'static str> {
     }
 }
 
-// Why no line has the byte that comes first.
+// Why no line has the first of these bytes, which are the rest of a line.
 fn flaw_of_byte(rest: &[u8]) -> &'static str {
     match rest {
         [b'\r'] => {
@@ -148,7 +148,7 @@ fn flaw_of_byte(rest: &[u8]) -> &'static str {
     }
 }
 
-// The first word, and what comes after it, beginning with the space.
+// The first word, and what comes after it, beginning with the space. Where there is no space, all is the word.
 fn first_word(line: &[u8]) -> (&[u8], &[u8]) {
     match line.iter().position(|&byte| byte == b' ') {
         Some(k) => (&line[..k], &line[k..]),
@@ -156,7 +156,7 @@ fn first_word(line: &[u8]) -> (&[u8], &[u8]) {
     }
 }
 
-// What comes after the first byte.
+// What comes after the first byte, which is a space where there is one.
 fn past_space(bytes: &[u8]) -> &[u8] {
     match bytes {
         [_, rest @ ..] => rest,
@@ -164,7 +164,7 @@ fn past_space(bytes: &[u8]) -> &[u8] {
     }
 }
 
-// Whether these are digits, one at least.
+// Whether the bytes are digits, one at least.
 fn are_digits(bytes: &[u8]) -> bool {
     !bytes.is_empty()
         && bytes
@@ -173,7 +173,7 @@ fn are_digits(bytes: &[u8]) -> bool {
             .is_none()
 }
 
-// What is wrong with the words.
+// What is wrong with the words of a line that spells no command, found from the left.
 fn flaw_of_words(roles: &Roles, line: &[u8]) -> &'static str {
     let (name, after) = first_word(line);
     if roles.find_spelled(name).is_none() {
@@ -189,7 +189,7 @@ fn flaw_of_words(roles: &Roles, line: &[u8]) -> &'static str {
     flaw_of_verb(rest, verb)
 }
 
-// Why a line can't begin so.
+// Why a line can't begin with this word, which is no role's name.
 fn flaw_of_role(name: &[u8]) -> &'static str {
     if name.is_empty() {
         return "it begins with a space, and a line begins with its role";
@@ -200,7 +200,7 @@ fn flaw_of_role(name: &[u8]) -> &'static str {
     "its first word is no role of the protocol"
 }
 
-// Why what comes after the role is no command.
+// Why what comes after the role is no command. `verb` is the first word of it.
 fn flaw_of_verb(rest: &[u8], verb: &[u8]) -> &'static str {
     if rest.starts_with(b" ") {
         return TWO_SPACES;
@@ -211,7 +211,7 @@ fn flaw_of_verb(rest: &[u8], verb: &[u8]) -> &'static str {
     "after the role comes a command"
 }
 
-// What is wrong with what is left after the verb.
+// What is wrong with what is left after the verb, word by word; the form of such a line, where nothing else is found.
 fn flaw_of_parts(roles: &Roles, form: &Form, left: &[u8]) -> &'static str {
     let mut left = left;
     for part in form.parts {
@@ -234,7 +234,7 @@ fn flaw_of_parts(roles: &Roles, form: &Form, left: &[u8]) -> &'static str {
     needless(left).unwrap_or(form.told)
 }
 
-// What is wrong with a space where a word begins, or with an end there.
+// What is wrong where a word begins, if it begins with a space or the line ends there.
 fn flaw_of_blank(rest: &[u8]) -> Option<&'static str> {
     match rest.iter().position(|&byte| byte != b' ') {
         None => Some(SPACE_AT_END),
@@ -243,7 +243,7 @@ fn flaw_of_blank(rest: &[u8]) -> Option<&'static str> {
     }
 }
 
-// What is wrong with a space at the end, or with a comment there.
+// What is wrong with what is left at the end of a line, if it is spaces alone or a comment.
 fn needless(left: &[u8]) -> Option<&'static str> {
     match left.iter().position(|&byte| byte != b' ') {
         None => Some(SPACE_AT_END),
@@ -252,7 +252,7 @@ fn needless(left: &[u8]) -> Option<&'static str> {
     }
 }
 
-// What is wrong with a word in that place.
+// What is wrong with a word in the place of that part, if something is.
 fn flaw_of_part(roles: &Roles, part: Part, word: &[u8]) -> Option<&'static str> {
     match part {
         Part::Peer if roles.find_spelled(word).is_some() => None,
@@ -263,12 +263,12 @@ fn flaw_of_part(roles: &Roles, part: Part, word: &[u8]) -> Option<&'static str> 
     }
 }
 
-// So much of the word as a name may have.
+// The front of the word, of as many bytes as a name may have.
 fn longest_front(word: &[u8]) -> &[u8] {
     &word[..word.len().min(LONGEST_NAME)]
 }
 
-// What is wrong with a slot, a label or the name of a mark.
+// What is wrong with a slot, a label or the name of a mark, if something is.
 fn flaw_of_name(word: &[u8]) -> Option<&'static str> {
     if Name::read(word).is_some() {
         return None;
@@ -282,7 +282,7 @@ fn flaw_of_name(word: &[u8]) -> Option<&'static str> {
     Some("names are of small letters, digits and `_`, with a letter first")
 }
 
-// Whether no name is spelled so, though its letters are those of names.
+// Whether the word is reserved: no name is spelled so, though its letters are those of names.
 fn is_reserved(word: &[u8]) -> bool {
     match word {
         b"roles" | b"rec" | b"end" | b"int" | b"bool" | b"text" | b"true" | b"false" => true,
@@ -290,7 +290,7 @@ fn is_reserved(word: &[u8]) -> bool {
     }
 }
 
-// What is wrong with a number.
+// What is wrong with a number, if something is.
 fn flaw_of_number(word: &[u8]) -> Option<&'static str> {
     if !are_digits(word) {
         return Some("a number has nothing but digits");
@@ -304,7 +304,7 @@ fn flaw_of_number(word: &[u8]) -> Option<&'static str> {
     None
 }
 
-// What is wrong with what is sent, with all that comes after it in the line.
+// What is wrong with the value that is sent, if something is. All that comes after it in the line is given too.
 fn flaw_of_value(rest: &[u8]) -> Option<&'static str> {
     if let Some(text) = rest.strip_prefix(b"\"") {
         return flaw_of_text(text);
@@ -331,14 +331,15 @@ fn flaw_of_int(word: &[u8], digits: &[u8]) -> &'static str {
     "an int is from -9223372036854775808 to 9223372036854775807"
 }
 
-// What is wrong with what comes after a value.
+// Why what comes after a value, beginning with a space, may not stand there.
 fn flaw_after_value(after: &[u8]) -> &'static str {
     needless(after).unwrap_or(
         "nothing comes after a value: a text of several words stands in double quotes",
     )
 }
 
-// What is wrong with a text whose first quote was read, with all that comes after it in the line.
+// What is wrong with a text whose first quote was read, if something is. All that comes after it in the line is given
+// too.
 fn flaw_of_text(text: &[u8]) -> Option<&'static str> {
     let (inside, after) = match text.iter().position(|&byte| byte == b'"') {
         Some(k) => (&text[..k], Some(&text[k + 1..])),

@@ -10,16 +10,20 @@ use crate::faults::ToolFault;
 use crate::rooms::room_of;
 use mps_dev::{OverRead, OverWrite};
 use mps_hub::RestoredRoom;
-use mps_keeper::{Book, Keeper, RestoreFault, Restored};
+use mps_keeper::{Book, Chain, Keeper, RestoreFault, Restored};
 use mps_open::Opening;
+use mps_seal::Seal;
 use mps_text::write_protocol;
 use mps_words::JournalFolder;
 use std::alloc::Global;
 use std::fs::{DirBuilder, File};
 use std::io::{ErrorKind, Write};
-use std::os::unix::fs::{DirBuilderExt, OpenOptionsExt};
+use std::os::unix::fs::{DirBuilderExt, MetadataExt, OpenOptionsExt};
 use std::rt::Files;
 use std::{fs, io};
+
+// How many bytes the file of a protocol has at most: a text, and an LF, and one byte more.
+const MOST_PROTOCOL: u64 = 65_538;
 
 /// What records a session in a file.
 pub type FileKeeper = Keeper<OverWrite<File>, File>;
@@ -41,15 +45,17 @@ fn make_folder<R: Files>(rt: &R, folder: &str) -> io::Result<()> {
     }
 }
 
-// Writes a file for its owner alone, whole or not at all: first under another name.
+// Writes a file for its owner alone, whole or not at all: first under another name, of which an earlier start may have
+// left a file, and someone else a link.
 fn write_whole<R: Files<File = File>>(
     rt: &R,
     path: &str,
     beside: &str,
     text: &[u8],
 ) -> io::Result<()> {
+    let _left = fs::remove_file(rt, beside);
     let mut options = File::options();
-    options.write(true).create(true).truncate(true).mode(0o600);
+    options.write(true).create_new(true).mode(0o600);
     let mut file = options.open(rt, beside)?;
     file.write_all(text)?;
     file.write_all(b"\n")?;
@@ -95,21 +101,42 @@ fn unusable<'a>(folder: &'a str, error: io::Error) -> ToolFault<'a>
     }
 }
 
-// What the file has; nothing but a file is opened, since a pipe might be waited for.
+// What the file has, or nothing where that is more than any protocol; nothing but a file is opened, since a pipe might be
+// waited for.
 fn file_bytes<R: Files + AllocGlobal>(rt: &R, path: &str) -> io::Result<Vec<u8>> {
-    if !fs::metadata(rt, path)?.is_file() {
+    let about = fs::metadata(rt, path)?;
+    if !about.is_file() {
         return Err(io::Error::from(ErrorKind::InvalidInput));
+    }
+    if about.len() > MOST_PROTOCOL {
+        return Ok(Vec::new(rt.alloc()));
     }
     fs::read(rt, path)
 }
 
-// Opens a journal to be read and added to, for its owner alone, and locks it.
-fn open_journal<R: Files<File = File>>(rt: &R, path: &str) -> io::Result<File> {
+// Whether the path is the name of this file itself, and of no link to it.
+fn names<R: Files>(rt: &R, path: &str, file: &File) -> io::Result<bool> {
+    let named = fs::symlink_metadata(rt, path)?;
+    let opened = file.metadata()?;
+    Ok(named.dev() == opened.dev() && named.ino() == opened.ino())
+}
+
+// Opens a journal to be read and added to, for its owner alone, and locks it. It has to be the folder's owner's, and no
+// link.
+fn open_journal<R: Files<File = File>>(rt: &R, folder: &str, path: &str) -> io::Result<File> {
+    // before it is opened, which would make the file that a link leads to
+    if fs::symlink_metadata(rt, path).is_ok_and(|named| named.is_symlink()) {
+        return Err(io::Error::from(ErrorKind::InvalidInput));
+    }
     let mut options = File::options();
     options.read(true).append(true).create(true).mode(0o600);
     let file = options.open(rt, path)?;
-    if !file.metadata()?.is_file() {
+    let about = file.metadata()?;
+    if !about.is_file() || !names(rt, path, &file)? {
         return Err(io::Error::from(ErrorKind::InvalidInput));
+    }
+    if about.uid() != fs::metadata(rt, folder)?.uid() {
+        return Err(io::Error::from(ErrorKind::PermissionDenied));
     }
     match file.try_lock() {
         Ok(()) => Ok(file),
@@ -133,7 +160,7 @@ fn open_journals<'a, R: Files<File = File> + AllocGlobal>(
     for place in 0..sessions {
         let session = first + place;
         let path = format!(in alloc; "{folder}/{session}.journal")?;
-        match open_journal(rt, path.as_str()) {
+        match open_journal(rt, folder, path.as_str()) {
             Ok(file) => files.push(file)?,
             Err(why) => {
                 return Err(ToolFault::JournalFile {
@@ -153,9 +180,9 @@ fn unrestored<'a>(session: u64, fault: RestoreFault) -> ToolFault<'a>
     match fault {
         RestoreFault::Read => ToolFault::JournalLost { session },
         RestoreFault::Memory => ToolFault::Memory,
-        RestoreFault::Unreadable { line } | RestoreFault::Refused { line } => {
-            ToolFault::JournalLine { session, line }
-        }
+        RestoreFault::Unreadable { line }
+        | RestoreFault::Refused { line }
+        | RestoreFault::Changed { line } => ToolFault::JournalLine { session, line },
     }
 }
 
@@ -166,10 +193,11 @@ struct RestoredFile {
     restored: Restored,
 }
 
-// The room of a session, restored from its file.
+// The room of a session, restored from its file, whose lines go by the protocol of that text.
 fn restore_file<'a>(
     alloc: Global,
     opening: &Opening,
+    protocol: &[u8],
     session: u64,
     file: &File,
 ) -> Result<(RestoredRoom, Restored), ToolFault<'a>>
@@ -177,7 +205,8 @@ fn restore_file<'a>(
     ensures fault { IfErr result (IsOneFault session) }
 {
     let mut room = room_of(alloc, opening)?;
-    match room.restore_from(alloc, &mut OverRead::new(file)) {
+    let first = Seal::first(alloc, protocol, session)?;
+    match room.restore_from(alloc, first, &mut OverRead::new(file)) {
         Ok(restored) => Ok((room, restored)),
         Err(fault) => Err(unrestored(session, fault)),
     }
@@ -187,6 +216,7 @@ fn restore_file<'a>(
 fn restore_all<'a>(
     alloc: Global,
     opening: &Opening,
+    protocol: &[u8],
     first: u64,
     files: Vec<File>,
 ) -> Result<(Vec<RestoredRoom>, Vec<RestoredFile>), ToolFault<'a>>
@@ -201,14 +231,14 @@ fn restore_all<'a>(
     let mut read = Vec::with_capacity(alloc, files.len())?;
     for file in files {
         let session = first + rooms.len() as u64;
-        let (room, restored) = restore_file(alloc, opening, session, &file)?;
+        let (room, restored) = restore_file(alloc, opening, protocol, session, &file)?;
         rooms.push_reserved(room);
         read.push_reserved(RestoredFile { file, restored });
     }
     Ok((rooms, read))
 }
 
-// Cuts the file to its whole lines, and makes it the keeper of so many.
+// Cuts the file to its whole lines, marks it where its lines had no seals so far, and makes it the keeper of so many.
 fn keeper<'a>(
     alloc: Global,
     session: u64,
@@ -218,13 +248,20 @@ fn keeper<'a>(
     ensures { IfErr result (IsOneFault session) }
 {
     let RestoredFile { file, restored } = read;
-    if file.set_len(restored.bytes as u64).is_err() || (sync && file.sync_all().is_err()) {
+    if file.set_len(restored.bytes as u64).is_err() {
         return Err(ToolFault::JournalLost { session });
     }
     let Ok(sink) = file.try_clone() else {
         return Err(ToolFault::JournalLost { session });
     };
-    let book = Book::new(OverWrite::new(sink), restored.lines);
+    let Chain { seal, is_sealed } = restored.chain;
+    let mut book = Book::new(OverWrite::new(sink), restored.lines, seal);
+    if !is_sealed && book.mark(alloc).is_err() {
+        return Err(ToolFault::JournalLost { session });
+    }
+    if sync && file.sync_all().is_err() {
+        return Err(ToolFault::JournalLost { session });
+    }
     Ok(Keeper::new(alloc, book, sync.then_some(file))?)
 }
 
@@ -279,7 +316,7 @@ pub fn record_sessions<'a, R: Files<File = File> + AllocGlobal>(
     let files = open_journals(rt, folder, first, sessions)?;
     // before the journals were locked another server may have written it
     let known = known || has_protocol(rt, folder, path.as_str(), protocol)?;
-    let (rooms, read) = restore_all(alloc, opening, first, files)?;
+    let (rooms, read) = restore_all(alloc, opening, protocol, first, files)?;
     if !known {
         if let Err(error) = write_whole(rt, path.as_str(), beside.as_str(), protocol) {
             return Err(unusable(folder, error));

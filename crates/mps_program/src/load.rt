@@ -26,7 +26,8 @@ pub fn load_opening<'a, R: Source>(alloc: Global, reader: &mut R) -> Result<Open
     Ok(Opening::of_text(alloc, text.as_slice())?)
 }
 
-/// The same of the protocol in the file. That it is this file's text no clause says.
+/// Reads the protocol in the file, checks it, and projects it to each of its roles. That the text is this file's no
+/// clause says.
 pub(crate) fn load_file<'a, R: Files + AllocGlobal>(
     rt: &R,
     file: &'a str,

@@ -65,7 +65,8 @@ fn run_script_file<'a, R: Files + Input + AllocGlobal + Eprint, W: Sink>(
     say_why(ran, watched.into_source())
 }
 
-// The status of a strict run: 1 where a line was refused, which is told on standard error, else 0.
+// The status of a strict run: 1 where a line was refused, which is told on standard error, else 0. After a refusal the
+// run may have broken off with a fault, which isn't told.
 fn strict_status<'a, R: Eprint>(
     rt: &R,
     refused: Option<u64>,
@@ -77,6 +78,7 @@ fn strict_status<'a, R: Eprint>(
 {
     match refused {
         Some(line) => {
+            // the status is the same where this can't be told
             let _told = eprintln!(rt; "refused at line {line}");
             Ok(1)
         }

@@ -22,7 +22,7 @@ pub struct Tally {
 }
 
 impl Tally {
-    /// Nothing was heard yet.
+    /// A tally that has heard nothing yet.
     pub fn new() -> Tally
         ensures { HasHeard result [] }
     {
@@ -33,21 +33,21 @@ impl Tally {
         }
     }
 
-    /// How many answers have ended.
+    /// How many answers have ended, modulo 2^64.
     pub fn lines(&self) -> u64
         ensures { (heard : List ℕ) → HasHeard self.now heard → result ≡ length (cut heard).lines % 2 ^ 64 }
     {
         self.lines
     }
 
-    /// How many answers, one that has begun included, are refusals.
+    /// How many answers, one that has begun included, are refusals, modulo 2^64.
     pub fn refused(&self) -> u64
         ensures { (heard : List ℕ) → HasHeard self.now heard → result ≡ refusals (begun heard) % 2 ^ 64 }
     {
         self.refused
     }
 
-    // Whether the last answer that was heard has ended.
+    // Whether the last answer that was heard has ended. Where none was heard, none is open either.
     fn has_ended(&self) -> bool
         ensures { (heard : List ℕ) → HasHeard self.now heard → IsTrue result ↔ (cut heard).rest ≡ [] }
     {
@@ -77,7 +77,7 @@ impl Tally {
         }
     }
 
-    // Hears the bytes that come next.
+    // Hears the bytes that come next, line by line.
     fn hear(&mut self, bytes: &[u8])
         ensures { (heard : List ℕ) → HasHeard self.old heard → HasHeard self.new (heard ++ bytes.now) }
     {
@@ -93,6 +93,7 @@ impl Sink for Tally {
 
     ghost failed_calls = { λ _. 0 };
 
+    // Hears all of the bytes, and keeps none.
     fn write(&mut self, bytes: &[u8]) -> Result<usize, Failed>
         ensures within { WritesAtMost result bytes.now }
         ensures progress { TakesSome result bytes.now }
@@ -119,7 +120,7 @@ pub struct Strict<'c, W> {
 }
 
 impl<'c, W> Strict<'c, W> {
-    /// Passes answers on to this sink, and notes there that one was a refusal.
+    /// Passes answers on to this sink, and notes in `noted` when one was a refusal.
     pub fn new(inner: W, noted: &'c Cell<bool>) -> Strict<'c, W>
         ensures inner { inner_of result ≡ inner }
         ensures late { late_of result ≡ 0 }
@@ -133,7 +134,7 @@ impl<'c, W> Strict<'c, W> {
         }
     }
 
-    /// The number of the line whose refusal was taken whole, counted from 1, if one was.
+    /// The number of the line whose refusal was taken whole, counted from 1, modulo 2^64, if one was.
     pub fn refused(&self) -> Option<u64>
         ensures { (passed : List ℕ) → HasPassed self.now passed → result ≡ wrapped (first_refusal (cut passed).lines) }
     {
@@ -144,13 +145,13 @@ impl<'c, W> Strict<'c, W> {
         }
     }
 
-    // Notes whether a refusal was taken whole.
+    // Notes whether a refusal was taken whole, for the `Until` that reads the script.
     fn note(&self) {
         self.noted.set(self.refused().is_some());
     }
 }
 
-// How many bytes the line has that comes first, with its LF.
+// How many bytes the line takes that comes first, with its LF; all of the bytes, where none ends it.
 fn line_length(bytes: &[u8]) -> usize
     ensures within { result ≤ length bytes.now }
     ensures some { 0 < length bytes.now → 0 < result }
@@ -168,6 +169,8 @@ impl<'c, W: Sink> Sink for Strict<'c, W> {
 
     ghost failed_calls = { λ s. W.failed_calls (inner_of s) + late_of s };
 
+    // Passes on the front of the bytes, one line at most, so that nothing after a refusal is passed on. Once a refusal
+    // was taken whole, each write fails.
     fn write(&mut self, bytes: &[u8]) -> Result<usize, Failed>
         requires { W.failed_calls (inner_of self.old) + late_of self.old < 2 ^ 63 }
         ensures within { WritesAtMost result bytes.now }

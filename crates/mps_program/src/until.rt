@@ -20,7 +20,7 @@ pub struct Until<'c, S> {
 }
 
 impl<'c, S> Until<'c, S> {
-    /// Reads from the source until a refusal is noted there, as `Strict` does.
+    /// Reads from the source until `refused` says that an answer was a refusal, as `Strict` notes there.
     pub fn new(source: S, refused: &'c Cell<bool>) -> Until<'c, S>
         ensures source { script_of result ≡ source }
         ensures late { late_reads_of result ≡ 0 }
@@ -32,7 +32,7 @@ impl<'c, S> Until<'c, S> {
         }
     }
 
-    /// The source, where the last read left it.
+    /// Takes the source out again, as the last read left it.
     pub fn into_source(self) -> S
         ensures { result ≡ script_of self.entry }
     {
@@ -52,6 +52,7 @@ impl<'c, S: Source> Source for Until<'c, S> {
 
     ghost fewer_failed = { λ s. Prim.omega (arith, S.fewer_failed (script_of s)) };
 
+    // Reads from the source. Once a refusal is noted, the source isn't asked any more, and each read fails.
     fn read(&mut self, buf: &mut [u8]) -> Result<usize, Failed>
         requires { S.calls (script_of self.old) + late_reads_of self.old < 2 ^ 63 }
         ensures within { ReadsAtMost result buf.new }

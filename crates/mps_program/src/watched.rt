@@ -39,7 +39,7 @@ impl<'r, E: AllocGlobal + Eprint, S> Watched<'r, E, S> {
         }
     }
 
-    /// The source, where the last read left it.
+    /// Takes the source out again, as the last read left it.
     pub fn into_source(self) -> S
         ensures { result ≡ source_of self.entry }
     {
@@ -47,13 +47,15 @@ impl<'r, E: AllocGlobal + Eprint, S> Watched<'r, E, S> {
         source
     }
 
-    // Tells of the line, if it is unreadable.
+    // Counts the line, and tells of it on standard error, if it is unreadable.
     fn look_at(&mut self, line: Line)
         ensures { source_of self.new ≡ source_of self.old }
     {
+        // no script has so many lines that this wraps
         self.number = u64::wrapping_add(self.number, 1);
         if let Some(why) = flaw_of(self.rt.alloc(), &self.roles, &line) {
             let number = self.number;
+            // a run goes on also where this can't be told
             let _told = eprintln!(self.rt; "line {number} is unreadable: {why}");
         }
     }
@@ -63,6 +65,7 @@ impl<'r, E: AllocGlobal + Eprint, S> Watched<'r, E, S> {
         ensures { source_of self.new ≡ source_of self.old }
     {
         self.lines.feed(bytes)?;
+        // they end no more lines than they have bytes
         for _ in bytes {
             match self.lines.next_line()? {
                 Some(line) => self.look_at(line),
@@ -72,11 +75,12 @@ impl<'r, E: AllocGlobal + Eprint, S> Watched<'r, E, S> {
         Ok(())
     }
 
-    // Looks at what was read, as long as there is memory for it; at the end, where that is nothing, at a last line
-    // without an LF.
+    // Looks at what was read, as long as there is memory for it. Where that is nothing, at the end, a last line without
+    // an LF is looked at too.
     fn watch(&mut self, bytes: &[u8])
         ensures { source_of self.new ≡ source_of self.old }
     {
+        // at the end the LF that a last line lacks
         let bytes = if bytes.is_empty() && self.begun {
             b"\n".as_slice()
         } else {
@@ -102,6 +106,7 @@ impl<'r, E: AllocGlobal + Eprint, S: Source> Source for Watched<'r, E, S> {
 
     ghost fewer_failed = { λ w. S.fewer_failed (source_of w) };
 
+    // Reads from the source, and looks at what was read. To read nothing into an empty buffer is no end.
     fn read(&mut self, buf: &mut [u8]) -> Result<usize, Failed> {
         let count = self.source.read(buf)?;
         if !buf.is_empty() {

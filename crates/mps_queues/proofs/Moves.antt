@@ -1,7 +1,7 @@
 -- The front of a queue, as sends and receipts come and go.
 use Rattle.std.proofs.Common.{◌≡◌, ℕ, zero, suc, ◌+◌, ◌*◌, ◌<◌, ◌≤◌, ◌⊎◌, Bool, true, false, List, [], ◌∷◌, ◌++◌, length, drop, not, Option, Some, None, refl, sym, ap, ◌∙◌, subst, arith, ⊎_elim, inl, inr, eq-eqb, append-nil, length-append}
 use mathlib.Core.Path.{ap₂}
-use Rattle.std.specs.Prelude.{◌==◌, ◌&&◌, slice_get, slice_index_or, slice_set}
+use Rattle.std.specs.Prelude.{◌==◌, ◌&&◌, if◌then◌else◌, is_none, slice_get, slice_index_or, slice_set}
 use Rattle.std.specs.List.{filter}
 use Rattle.std.proofs.lemmas.Bool.{cases_Bool, cond-false, eqb-true, and_parts, and_from, and_right, or_left, false_from_ne_true, both_ways}
 use Rattle.std.proofs.lemmas.List.{get_or-set_same, get_or-set_other, get_or_default}
@@ -18,7 +18,11 @@ use Rattle.mps_arena.proofs.Matched.{matched_of, sends_pair, receives_pair, send
 use Rattle.mps_arena.proofs.Nodes.{cases_keyed}
 use Rattle.mps_arena.proofs.Keeping.{others_are, keyed_split}
 use Rattle.mps_queues.specs.Fronts.{front_at, waiting_keys, AreFronts}
-use Rattle.mps_queues.specs.Private.Fronts.{pushed, taken, returned, dropped}
+use Rattle.mps_queues.specs.Private.Fronts.{taken, returned, dropped}
+
+-- the front, where a send joins
+abbrev pushed : ℕ → Option ℕ → Option ℕ
+pushed key front = if is_none front then Some key else front
 
 -- lists of keys
 get_push : (c : List ℕ) (n k : ℕ) → n ≤ length c → slice_get (c ++ k ∷ []) n ≡ pushed k (slice_get c n)
@@ -69,6 +73,13 @@ front_set fronts es now p q at v long hp hq place f here others = record { each 
   where
     each : (i j : ℕ) → i < 8 → j < 8 → front_at (slice_set fronts at v) i j ≡ first_waiting now i j
     each i j hi hj = grind (arith, and_parts, eqb-true, get_or-set_same, both_ways, and_from, eq-eqb, get_or-set_other, cases_Bool)
+
+-- no front changes
+pub front_stays : (fronts : List (Option ℕ)) (es now : List KeyedStep) (p q : ℕ) → AreFronts es fronts → first_waiting now p q ≡ first_waiting es p q → ((i j : ℕ) → (i ≡ p → j ≡ q → ⊥) → first_waiting now i j ≡ first_waiting es i j) → AreFronts now fronts
+front_stays fronts es now p q f here others = record { each = each }
+  where
+    each : (i j : ℕ) → i < 8 → j < 8 → front_at fronts i j ≡ first_waiting now i j
+    each i j hi hj = grind (arith, and_parts, eqb-true, both_ways, and_from, eq-eqb, cases_Bool)
 
 module _ (es : List KeyedStep) (sound : AreSound es) (p q : ℕ) where
   abbrev sent : List ℕ

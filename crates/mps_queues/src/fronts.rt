@@ -7,7 +7,7 @@ ghost use Rattle.mps_arena.specs.Keys.{last_key};
 ghost use Rattle.mps_arena.specs.KeyedSteps.{KeyedStep, keys_of, AreSound};
 ghost use Rattle.mps_arena.specs.Neighbours.{first_waiting};
 ghost use Rattle.mps_queues.specs.Fronts.{front_at, waiting_keys, AreFronts};
-ghost use Rattle.mps_queues.specs.Private.Fronts.{pushed, taken, returned, dropped};
+ghost use Rattle.mps_queues.specs.Private.Fronts.{taken, returned, dropped};
 
 use mps_arena::{Arena, Key, Link, steps_are_sound};
 use mps_base::Role;
@@ -31,18 +31,7 @@ impl Model for Queues {
     ghost invariant = { λ q. length q.fronts ≡ 64 };
 }
 
-// The front, where a send joins.
-fn pushed_front(key: Key, front: Link) -> Link
-    ensures { result ≡ pushed key front }
-{
-    if front.is_none() {
-        Link::to(key)
-    } else {
-        front
-    }
-}
-
-// The front, where the first send is received.
+// The front of a queue after its first send was received: the pair's next send, if there is one.
 fn taken_front(arena: &Arena, front: Link) -> Link
     ensures { result ≡ taken arena.now.keyed_steps front }
 {
@@ -52,7 +41,8 @@ fn taken_front(arena: &Arena, front: Link) -> Link
     }
 }
 
-// The front, where a receipt goes.
+// The front of a queue without the pair's last receipt: the send before the old front or, where nothing waited, the
+// pair's last send.
 fn returned_front(arena: &Arena, last: Option<Key>, front: Link) -> Link
     ensures { result ≡ returned arena.now.keyed_steps last front }
 {
@@ -62,7 +52,7 @@ fn returned_front(arena: &Arena, last: Option<Key>, front: Link) -> Link
     }
 }
 
-// The front, where the last send goes.
+// The front of a queue without the pair's last send: none where that send was the front, else as before.
 fn dropped_front(last: Option<Key>, front: Link) -> Link
     ensures { result ≡ dropped last front }
 {
@@ -82,7 +72,7 @@ impl Queues {
         Queues { fronts: [none; 64] }
     }
 
-    /// The first send of the pair that isn't received.
+    /// The key of the first send from one role to the other that isn't received, if there is one.
     pub fn front(&self, from: Role, to: Role) -> Option<Key>
         requires from { from < 8 }
         requires to { to < 8 }
@@ -91,13 +81,15 @@ impl Queues {
         self.fronts[from.index() * 8 + to.index()].key()
     }
 
-    /// The k-th send of the pair that isn't received, from 0. It takes O(k) time.
+    /// The key of the k-th send from one role to the other that isn't received, from 0, if so many wait. It takes O(k)
+    /// time.
     pub fn nth(&self, arena: &Arena, from: Role, to: Role, k: usize) -> Option<Key>
         requires from { from < 8 }
         requires to { to < 8 }
         requires fronts { AreFronts arena.now.keyed_steps self.now }
         ensures { result ≡ slice_get (waiting_keys arena.now.keyed_steps from to) k }
     {
+        // for the proof alone
         steps_are_sound(arena);
         let mut at = self.front(from, to)?;
         for _ in 0..k {
@@ -106,7 +98,7 @@ impl Queues {
         Some(at)
     }
 
-    /// Puts a send after all others of its pair, before it is added or after.
+    /// Puts a send at the end of its pair's queue. The send may join the arena before that or after.
     pub fn push(&mut self, from: Role, to: Role, key: Key)
         requires from { from < 8 }
         requires to { to < 8 }
@@ -114,11 +106,13 @@ impl Queues {
             → IsTrue (sends from to e.step) → e.key ≡ key → AreFronts (es ++ e ∷ []) self.new }
     {
         let at = from.index() * 8 + to.index();
-        let front = self.fronts[at];
-        self.fronts[at] = pushed_front(key, front);
+        if self.fronts[at].is_none() {
+            self.fronts[at] = Link::to(key);
+        }
     }
 
-    /// Takes the first send off, before its receipt is added, and tells its key.
+    /// Takes the first send off its pair's queue, before its receipt joins the arena, and tells its key; none where
+    /// nothing waits.
     pub fn take(&mut self, arena: &Arena, from: Role, to: Role) -> Option<Key>
         requires from { from < 8 }
         requires to { to < 8 }
@@ -127,6 +121,7 @@ impl Queues {
         ensures fronts { (e : KeyedStep) → IsTrue (receives from to e.step)
             → AreFronts (arena.now.keyed_steps ++ e ∷ []) self.new }
     {
+        // for the proof alone
         steps_are_sound(arena);
         let at = from.index() * 8 + to.index();
         let front = self.fronts[at];
@@ -134,7 +129,7 @@ impl Queues {
         front.key()
     }
 
-    /// Puts the send of the pair's last receipt back in front, before the receipt is removed.
+    /// Puts the send of the pair's last receipt back in front of the queue, before the receipt leaves the arena.
     pub fn put_back(&mut self, arena: &Arena, from: Role, to: Role)
         requires from { from < 8 }
         requires to { to < 8 }
@@ -143,6 +138,7 @@ impl Queues {
         ensures { (k : ℕ) → last_key None (keys_of (receives from to) arena.now.keyed_steps) ≡ Some k
             → AreFronts (filter (λ e. not (e.key == k)) arena.now.keyed_steps) self.new }
     {
+        // for the proof alone
         steps_are_sound(arena);
         let at = from.index() * 8 + to.index();
         let front = self.fronts[at];
@@ -150,7 +146,7 @@ impl Queues {
         self.fronts[at] = returned_front(arena, last, front);
     }
 
-    /// Drops the pair's last send, before it is removed.
+    /// Drops the pair's last send from its queue, before the send leaves the arena.
     pub fn drop_last(&mut self, arena: &Arena, from: Role, to: Role)
         requires from { from < 8 }
         requires to { to < 8 }
@@ -159,6 +155,7 @@ impl Queues {
         ensures { (k : ℕ) → last_key None (keys_of (sends from to) arena.now.keyed_steps) ≡ Some k
             → AreFronts (filter (λ e. not (e.key == k)) arena.now.keyed_steps) self.new }
     {
+        // for the proof alone
         steps_are_sound(arena);
         let at = from.index() * 8 + to.index();
         let front = self.fronts[at];

@@ -33,7 +33,7 @@ pub trait Caller {
     // The number of the newest numbered command that was accepted, 0 at first.
     ghost last: { Self → ℕ };
 
-    // Its answer.
+    // The answer to the newest numbered command that was accepted, if there is one.
     ghost kept: { Self → Option Response };
 
     // Whether what it was answered may be told on.
@@ -43,7 +43,7 @@ pub trait Caller {
     fn roles(&self) -> &Roles
         ensures { result.now ≡ names self.now };
 
-    /// Gives the command without a number, and is answered.
+    /// Gives a command without a number, and tells the answer. The last number and the answer that is `kept` stay.
     fn call(&mut self, command: Command) -> Answer
         ensures call { calls self.old command result self.new }
         ensures last { last self.new ≡ last self.old }
@@ -53,18 +53,18 @@ pub trait Caller {
     fn last(&self) -> u64
         ensures { result ≡ last self.now };
 
-    /// Its answer.
+    /// The answer to the newest numbered command that was accepted, if there is one.
     fn kept(&self) -> Option<&Answer>
         ensures { option_map (λ a. a.now) result ≡ kept self.now };
 
-    /// Gives a command that asks for a change, with the next number. What is accepted is `kept` under it; what is refused
-    /// leaves the number to come again.
+    /// Gives a command that asks for a change, with the next number. What is accepted is `kept` under it; what is
+    /// refused leaves the number to come again.
     fn call_next(&mut self, number: u64, command: Command) -> Result<(), Refusal>
         requires next { number ≡ last self.old + 1 }
         requires change { IsSome (change_of command) }
         ensures { IsNumbered calls last kept self.old number command self.new (came_of result) };
 
-    /// Whether what it was answered may be told on.
+    /// Whether what the caller was answered may be told on: not where a line that records it was lost.
     fn may_tell(&self) -> bool
         ensures { result ≡ may_tell self.now };
 
@@ -83,8 +83,8 @@ pub trait Caller {
 }
 
 /// Gives a command that asks for a change, with its number. With the next number it is called, and what is accepted is
-/// `kept`. With the last number nothing is called, and its answer is the one that is `kept`, whatever it asks for. With
-/// any other number nothing is called.
+/// `kept`. With the last number nothing is called, and its answer is the one that is `kept`, whatever the command asks
+/// for. With any other number nothing is called.
 pub fn call_numbered<C: Caller>(caller: &mut C, number: u64, command: Command) -> Told
     requires { IsSome (change_of command) }
     ensures { IsNumbered C.calls C.last C.kept caller.old number command caller.new result }

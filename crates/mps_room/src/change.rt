@@ -8,7 +8,6 @@ ghost use Rattle.mps_room.specs.Private.Heard.{hears, with_place, takes_others};
 ghost use Rattle.mps_room.specs.Private.Forms.{narrow_answer, narrow, source_place, Fits};
 ghost use Rattle.mps_room.specs.Private.Owners.{owns, owners_after, is_step, HasSpace};
 ghost use Rattle.mps_room.specs.Private.Rooms.{IsLack};
-ghost use Rattle.mps_session.specs.Answers.{source_of};
 
 use crate::heard::Heard;
 use crate::narrow_entry::NarrowEntry;
@@ -20,7 +19,7 @@ use mps_session::Gist;
 use std::slice;
 
 // Reserves memory for one entry more, and for what the command adds besides: a step, or, where the command may take
-// back steps of others, the entry's place in their lists. Says what is missing, if anything is.
+// back steps of others, the entry's place in their lists. Says what is missing, if anything is: `Full`, else `Memory`.
 #[inline(always)]
 fn reserve_entry(
     journal: &mut Vec<NarrowEntry>,
@@ -52,13 +51,14 @@ fn reserve_entry(
     match command {
         Command::Forward(_) => steps.reserve_one()?,
         Command::Rollback(_) | Command::Back(_) => heard.reserve(role)?,
+        // an undo takes back a step of the role's own, of which nobody hears
         _ => {}
     }
     Ok(())
 }
 
 // Adds a new step, or, where the command may take back steps of others, the entry's place to the lists of the roles
-// that hear of it.
+// that hear of it. Memory for it was reserved.
 #[inline(always)]
 fn note(
     steps: &mut Steps,
@@ -93,7 +93,7 @@ fn note(
     }
 }
 
-// Adds the entry, and what there is to note beside it.
+// Adds the entry, and what there is to note beside it. Memory for both was reserved.
 #[inline(always)]
 fn keep(
     journal: &mut Vec<NarrowEntry>,
@@ -124,23 +124,17 @@ fn keep(
         (length journal.old.items) (slice_index_or heard.old.lists p d).items }
     ensures unheard { takes_others command ≡ false → heard.new.lists ≡ heard.old.lists }
 {
+    // a journal has at most 100,000 entries
     let place = journal.len() as u32;
-    let sent_at = steps.place_of(source_of(&gist));
+    let sent_at = match &gist {
+        Gist::Stepped { source, .. } => steps.place_of(*source),
+        Gist::Undid(_) | Gist::TookBack(_) => None,
+    };
     note(steps, heard, role, &command, &gist, place);
     NarrowEntry::push(journal, role, command, gist, sent_at);
 }
 
-// The number of the step that sent what was taken, if anything was.
-fn source_of(gist: &Gist) -> Option<StepId>
-    ensures { result ≡ source_of gist.now }
-{
-    match gist {
-        Gist::Stepped { source, .. } => *source,
-        Gist::Undid(_) | Gist::TookBack(_) => None,
-    }
-}
-
-// The numbers of the steps that were taken back.
+// Of a gist, the numbers of the steps that were taken back; none of a new step.
 fn undone_by(gist: &Gist) -> &[StepId]
     ensures { result.now ≡ undone_by (narrow_answer gist.now) }
 {
@@ -152,7 +146,7 @@ fn undone_by(gist: &Gist) -> &[StepId]
 }
 
 impl Room {
-    /// Answers a change, as `apply` does: what is accepted joins the journal with its answer.
+    /// Answers a command that asks for a change, as `apply` does: what is accepted joins the journal with its answer.
     #[inline(always)]
     pub(crate) fn change(&mut self, role: Role, command: Command) -> Answer
         requires role { role < length self.old.types }
@@ -174,6 +168,7 @@ impl Room {
         }
         match self.session.attempt(role, &command) {
             Ok((answer, gist)) => {
+                // nothing fails here: memory is reserved
                 keep(
                     &mut self.journal,
                     &mut self.steps,
@@ -189,7 +184,7 @@ impl Room {
     }
 
     // The refusal of a change for which there is no space in the journal or no memory: the machine's, if it refuses,
-    // else this one.
+    // else `lack`. The session is lent exclusively, since `would` chooses steps on the way; nothing is changed.
     fn refused(&mut self, role: Role, command: &Command, lack: Refusal) -> Refusal
         requires role { role < length self.old.types }
         requires change { IsSome (change_of command.now) }

@@ -39,7 +39,7 @@ impl Heard {
         }
     }
 
-    /// The role's list. A role that there isn't hears of nothing.
+    /// The places of the entries that the role hears of, in order. A role that there isn't hears of nothing.
     pub(crate) fn list(&self, role: Role) -> &[u32]
         requires few { self.now.count ≤ 8 }
         requires each { length self.now.lists ≡ 8 }
@@ -53,7 +53,8 @@ impl Heard {
         self.lists[role.index()].as_slice()
     }
 
-    /// Reserves memory for one place more in the list of each role but this one.
+    /// Reserves memory for one place more in the list of each role but the asker's, who hears nothing of its own doing.
+    /// After an error some of the lists may have it.
     #[inline(never)]
     pub(crate) fn reserve(&mut self, asker: Role) -> Result<(), AllocError>
         requires few { self.old.count ≤ 8 }
@@ -73,7 +74,7 @@ impl Heard {
     }
 
     /// Adds the place of an entry to the list of each role that hears of it: one of these steps, which the asker took
-    /// back, was its own.
+    /// back, was its own. Memory for it was reserved.
     #[inline(never)]
     pub(crate) fn note(&mut self, steps: &Steps, asker: Role, ids: &[StepId], place: u32)
         requires few { self.old.count ≤ 8 }
@@ -95,7 +96,7 @@ impl Heard {
     }
 }
 
-// Reserves memory for one place more in one list.
+// Reserves memory for one place more in the list at `k`.
 fn reserve_at(lists: &mut [Vec<u32>; 8], k: usize) -> Result<(), AllocError>
     requires { k < length lists.old }
     ensures each { length lists.new ≡ length lists.old }
@@ -107,7 +108,7 @@ fn reserve_at(lists: &mut [Vec<u32>; 8], k: usize) -> Result<(), AllocError>
     lists[k].reserve(1)
 }
 
-// Adds a place to one list.
+// Adds a place to the list at `k`, which has space for it.
 fn push_at(lists: &mut [Vec<u32>; 8], k: usize, place: u32)
     requires list { k < length lists.old }
     requires space { (d : _) → vec_len (slice_index_or lists.old k d) < vec_capacity (slice_index_or lists.old k d) }
@@ -118,7 +119,7 @@ fn push_at(lists: &mut [Vec<u32>; 8], k: usize, place: u32)
     lists[k].push_reserved(place);
 }
 
-// Whether each role owns one of the steps.
+// For each of 8 roles whether one of the steps is its own.
 fn losers(steps: &Steps, ids: &[StepId]) -> [bool; 8]
     ensures { (p : ℕ) → p < 8 → slice_index_or result p false ≡ list_any (owns steps.now.owners.items p) ids.now }
 {

@@ -90,9 +90,10 @@ impl Model for NarrowEntry {
 }
 
 impl NarrowEntry {
-    /// Puts the entry of a command at the end of a journal, by the gist of its answer and the place of the entry that
-    /// gave the message that it took, if it took one. It does not allocate. Each form is written where it stays, since
-    /// a form that came from one of several places would be moved in many small pieces.
+    /// Puts the entry of a command at the end of a journal, by the gist of its answer, which is one of such a command,
+    /// and the place of the entry that gave the message that it took, if it took one. It does not allocate. Each form
+    /// is written where it stays, since a form that came from one of several places would be moved in many small
+    /// pieces.
     #[inline(always)]
     pub(crate) fn push(
         journal: &mut Vec<NarrowEntry>,
@@ -105,10 +106,12 @@ impl NarrowEntry {
         requires space { vec_len journal.old + 1 ≤ vec_capacity journal.old }
         ensures { journal.new.items ≡ journal.old.items ++ narrow role command gist sent_at ∷ [] }
     {
+        // a role's place fits a byte
         let by = role.index() as u8;
         match command {
             Command::Forward(step) => match gist {
                 Gist::Stepped { id, .. } => push_step(journal, role, step, id, sent_at),
+                // the clause `fits` excludes this and the arms like it
                 _ => unreachable!(),
             },
             Command::Undo(id) => put(journal, Form::Undone { role: by, id }),
@@ -134,14 +137,15 @@ impl NarrowEntry {
         }
     }
 
-    /// Whose entry it is, and what was asked for.
+    /// Whose entry it is, and its command, made anew.
     pub(crate) fn asked(&self, alloc: Global) -> Result<(Role, Command), AllocError>
         ensures { IfOk result (λ asked. asked ≡ (self.now.entry.role, self.now.entry.command)) }
     {
         Ok((self.form.role(), self.form.command(alloc)?))
     }
 
-    /// How it was answered, in this journal.
+    /// The answer to the entry's command, made anew. What a receipt took is found in this journal, in the entry of its
+    /// send.
     pub(crate) fn answer(
         &self,
         journal: &[NarrowEntry],
@@ -165,7 +169,7 @@ impl NarrowEntry {
         })
     }
 
-    /// The numbers of the steps that were taken back.
+    /// The numbers of the steps that the entry took back; none of a new step.
     pub(crate) fn undone(&self) -> &[StepId]
         ensures { result.now ≡ undone_by self.now.entry.answer }
     {
@@ -177,7 +181,7 @@ impl NarrowEntry {
     }
 }
 
-// Puts a form at the end of a journal.
+// Puts a form at the end of a journal, which has space for it.
 #[inline(always)]
 fn put(journal: &mut Vec<NarrowEntry>, form: Form)
     requires { vec_len journal.old + 1 ≤ vec_capacity journal.old }
@@ -186,7 +190,8 @@ fn put(journal: &mut Vec<NarrowEntry>, form: Form)
     journal.push_reserved(NarrowEntry { form });
 }
 
-// Puts a step that was taken, and the place of the entry that gave the message that it took.
+// Puts the entry of a new step at the end of a journal, with the place of the entry that gave the message that it took.
+// A receipt or a pick has such a place, and nothing else has.
 #[inline(always)]
 fn push_step(
     journal: &mut Vec<NarrowEntry>,
@@ -201,6 +206,7 @@ fn push_step(
     ensures { journal.new.items ≡ journal.old.items
         ++ narrow role (commands.Forward step) (gists.Stepped id None) sent_at ∷ [] }
 {
+    // a role's place fits a byte; by the clause `small` the number fits too
     let by = role.index() as u8;
     let id = id.number() as u32;
     match step {
@@ -216,6 +222,7 @@ fn push_step(
         Forward::Receive { from, slot } => {
             let pair = Pair::of(role, from);
             let slot = NarrowName::of(&slot);
+            // the clause `such` says that there is one, as below
             let place = sent_at.unwrap();
             let form = Form::Received {
                 pair,
@@ -239,7 +246,7 @@ fn push_step(
 }
 
 impl Pair {
-    // Of a role and the one that it has to do with.
+    // The pair of a role and its peer, each in a byte.
     fn of(role: Role, peer: Role) -> Pair
         ensures role { result.role ≡ role }
         ensures peer { result.peer ≡ peer }
@@ -250,7 +257,7 @@ impl Pair {
         }
     }
 
-    // Whom the role has to do with.
+    // The peer, with whom the role has to do.
     fn peer(self) -> Role
         ensures { result ≡ self.peer }
     {
@@ -259,7 +266,7 @@ impl Pair {
 }
 
 impl Form {
-    // Whose entry it is.
+    // The role whose entry it is.
     fn role(&self) -> Role
         ensures { result ≡ role_in self.now }
     {
@@ -276,7 +283,7 @@ impl Form {
         })
     }
 
-    // What was asked for.
+    // The command that was accepted, made anew. Only that of a send of a text allocates.
     fn command(&self, alloc: Global) -> Result<Command, AllocError>
         ensures { IfOk result (λ command. command ≡ command_in self.now) }
     {
@@ -302,7 +309,7 @@ impl Form {
         })
     }
 
-    // The message that it gave.
+    // The message that the entry's step gave, if it gave one. Only that of a text allocates.
     fn given(&self, alloc: Global) -> Result<Option<Message>, AllocError>
         ensures { IfOk result (λ message. message ≡ given_in (command_in self.now)) }
     {
@@ -320,7 +327,7 @@ impl Form {
     }
 }
 
-// The message that the entry at the place gave.
+// The message that the entry at the place gave; none where it gave none, or there is no such entry.
 fn message_at(
     journal: &[NarrowEntry],
     place: u32,
@@ -334,7 +341,7 @@ fn message_at(
     }
 }
 
-// The answer to a step of this number.
+// The answer to a new step of this number, with the message that it took, if it took one.
 fn done(id: u32, got: Option<Message>) -> Answer
     ensures { result ≡ step_done id got }
 {

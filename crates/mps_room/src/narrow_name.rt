@@ -24,7 +24,7 @@ impl Model for NarrowName {
 }
 
 impl NarrowName {
-    /// The name in this form.
+    /// Puts a name into this form. Its length, at most 32, fits a byte.
     #[inline(always)]
     pub(crate) fn of(name: &Name) -> NarrowName
         ensures { result ≡ name.now }
@@ -35,10 +35,11 @@ impl NarrowName {
         }
     }
 
-    /// The name itself.
+    /// Makes the name again.
     pub(crate) fn name(&self) -> Name
         ensures { result ≡ self.now }
     {
+        // these bytes were a name's, so they are read as one
         Name::read(&self.bytes[..self.len as usize]).unwrap()
     }
 }

@@ -33,7 +33,7 @@ pub(crate) fn news(
     Ok(ids)
 }
 
-// The places after the first `known` entries.
+// Of places that rise, those past the first `known` entries.
 fn after(places: &[u32], known: u64) -> &[u32]
     ensures { (early late : List ℕ) → places.now ≡ early ++ late → AllByRecursion (λ k. k < known) early
         → AllByRecursion (λ k. known ≤ k) late → result.now ≡ late }
@@ -42,7 +42,8 @@ fn after(places: &[u32], known: u64) -> &[u32]
     &places[first..]
 }
 
-// The numbers of the steps that the entry at the place took back.
+// The numbers of the steps that the entry at the place took back; none where it took none back, or there is no such
+// entry.
 fn undone_at(journal: &[NarrowEntry], place: u32) -> &[StepId]
     ensures { result.now ≡ undone_at (journal_of journal.now) place }
 {
@@ -52,7 +53,7 @@ fn undone_at(journal: &[NarrowEntry], place: u32) -> &[StepId]
     }
 }
 
-// Adds those of the numbers that are of the role's steps.
+// Adds those of the numbers that are of the role's steps. After an error some of them may stand in `out`.
 fn push_own(
     steps: &Steps,
     role: Role,
@@ -69,7 +70,7 @@ fn push_own(
     Ok(())
 }
 
-// Whether the step is the role's.
+// Whether the step of that number is the role's.
 fn owns(steps: &Steps, role: Role, id: StepId) -> bool
     ensures { result ≡ owns steps.now.owners.items role id }
 {

@@ -91,7 +91,8 @@ impl Room {
         &self.session
     }
 
-    /// How many entries the journal has.
+    /// How many entries the journal has. The clause `legal` serves callers that need it for a proof alone, and write
+    /// `let _legal = room.entries()`.
     pub fn entries(&self) -> u64
         ensures count { result ≡ length self.now.journal }
         ensures legal { IsLegal self.now.names self.now.types self.now.journal }
@@ -99,7 +100,7 @@ impl Room {
         self.journal.len() as u64
     }
 
-    /// The k-th entry, from 0. It is made anew, since the journal keeps entries in less memory.
+    /// The k-th entry, from 0, if there are so many. It is made anew, since the journal keeps entries in less memory.
     pub fn entry(&self, k: u64) -> Result<Option<Entry>, AllocError>
         ensures entry { IfOk result (λ entry. entry ≡ slice_get self.now.journal k) }
         // past the end nothing asks for memory
@@ -116,7 +117,8 @@ impl Room {
         }))
     }
 
-    /// The command of the k-th entry, from 0, and whose it is. Unlike `entry`, it makes no answer.
+    /// The command of the k-th entry, from 0, and whose it is, if there are so many. Unlike `entry`, it makes no
+    /// answer.
     pub fn command(&self, k: u64) -> Result<Option<(Role, Command)>, AllocError>
         ensures command { IfOk result (λ asked. asked
             ≡ option_map (λ entry. (entry.role, entry.command)) (slice_get self.now.journal k)) }
@@ -176,7 +178,8 @@ impl Room {
         }
     }
 
-    /// Answers what others took back, as `apply` does.
+    /// Answers the question which of the role's steps others took back after the first `known` entries, or that memory
+    /// ran out.
     #[inline(never)]
     pub fn answer_news(&self, role: Role, known: u64) -> Answer
         ensures answer { MayAnswer result
@@ -189,7 +192,7 @@ impl Room {
         }
     }
 
-    /// Answers how the session stands, as `apply` does.
+    /// Answers the question how the session stands, as text, or that memory ran out.
     #[inline(never)]
     pub fn answer_show(&self) -> Answer
         ensures answer { (role : ℕ) → MayAnswer result

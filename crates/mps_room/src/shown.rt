@@ -8,7 +8,7 @@ use mps_session::Session;
 use mps_show::{a_shown_text_is_one_line, write_show};
 use std::alloc::{AllocError, Global};
 
-/// The text that shows the session.
+/// The text that shows the session, on one line.
 pub(crate) fn shown_text(
     alloc: Global,
     names: &Roles,
@@ -20,6 +20,7 @@ pub(crate) fn shown_text(
 {
     let mut bytes = Vec::new(alloc);
     write_show(names, session, &mut bytes)?;
+    // for the proof alone, of what `of` asks of the bytes
     a_shown_text_is_one_line();
     Ok(ShownText::of(bytes))
 }

@@ -51,22 +51,28 @@ impl Caller for Solo {
 
     ghost may_tell = { λ _. true };
 
+    // The names of the room's roles.
     fn roles(&self) -> &Roles {
         self.room.names()
     }
 
+    // Gives the command to the room, for the role.
     fn call(&mut self, command: Command) -> Answer {
         self.room.apply(self.role, command)
     }
 
+    // The number of the newest numbered command that was accepted, 0 at first.
     fn last(&self) -> u64 {
         self.numbers.last()
     }
 
+    // The answer to the newest numbered command that was accepted, if there is one.
     fn kept(&self) -> Option<&Answer> {
         self.numbers.kept()
     }
 
+    // Gives the command to the room, for the role, and keeps the answer under the number, which is the next, if it is
+    // accepted.
     fn call_next(&mut self, number: u64, command: Command) -> Result<(), Refusal> {
         match self.room.apply(self.role, command) {
             Answer::Refused(refusal) => Err(refusal),
@@ -77,6 +83,7 @@ impl Caller for Solo {
         }
     }
 
+    // Always: nothing is recorded outside the room, so no line is lost.
     fn may_tell(&self) -> bool {
         true
     }

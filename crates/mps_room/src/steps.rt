@@ -27,7 +27,8 @@ impl Steps {
         }
     }
 
-    /// Reserves memory for one step more. It asks whether there is any, since most often there is: `reserve` is a call.
+    /// Reserves memory for one step more. It looks first whether there is any, since most often there is, and `reserve`
+    /// is a call.
     #[inline(always)]
     pub(crate) fn reserve_one(&mut self) -> Result<(), AllocError>
         ensures owners { self.new.owners.items ≡ self.old.owners.items }
@@ -43,7 +44,7 @@ impl Steps {
         Ok(())
     }
 
-    /// Adds a step of the role, whose entry stands at the place.
+    /// Adds a step of the role, whose entry stands at the place. Memory for it was reserved.
     #[inline(always)]
     pub(crate) fn push(&mut self, role: Role, place: u32)
         requires { HasSpace self.old }
@@ -54,7 +55,7 @@ impl Steps {
         self.places.push_reserved(place);
     }
 
-    /// Whose the step of that number is, if it was given out.
+    /// Whose the step of that number is, if the number was given out. Numbers begin with 1.
     pub(crate) fn owner_of(&self, id: StepId) -> Option<Role>
         ensures { (p : ℕ) → owns self.now.owners.items p id ≡ option_map_or (λ owner. owner == p) result false }
     {
@@ -62,7 +63,7 @@ impl Steps {
         Some(Role::new(*self.owners.get(k as usize)?))
     }
 
-    /// The place of the entry of the step of that number, if one is named and it was given out.
+    /// The place of the entry of the step of that number, if a number is named and was given out. Numbers begin with 1.
     #[inline(always)]
     pub(crate) fn place_of(&self, id: Option<StepId>) -> Option<u32>
         ensures { result ≡ option_and_then (place_of self.now.places.items) id }

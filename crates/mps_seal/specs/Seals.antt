@@ -24,11 +24,11 @@ abbrev pub sealed : (before line : List ℕ) → List ℕ
 sealed before line = line ++ seal_text (next_seal before line)
 
 -- the seal of the last of these lines, after that of the line before them
-pub seal_after : List ℕ → List (List ℕ) → List ℕ
+abbrev pub seal_after : List ℕ → List (List ℕ) → List ℕ
 seal_after seal [] = seal
 seal_after seal (line ∷ lines) = seal_after (next_seal seal line) lines
 
 -- these lines, each with its seal
-pub all_sealed : (before : List ℕ) → List (List ℕ) → List (List ℕ)
+abbrev pub all_sealed : (before : List ℕ) → List (List ℕ) → List (List ℕ)
 all_sealed seal [] = []
 all_sealed seal (line ∷ lines) = sealed seal line ∷ all_sealed (next_seal seal line) lines

@@ -3,8 +3,8 @@
 //!
 //! ```
 //! let first = Seal::first(alloc, b"roles a b ; end", 1)?;
-//! first.write(b"a mark m", &mut out)?; // "a mark m " and sixteen hexadecimal digits
-//! first.read(out.as_slice()) // Some: `a mark m`, and the seal that the next line goes by
+//! first.close(&mut line)?; // "a mark m" in the line becomes "a mark m " and sixteen hexadecimal digits
+//! first.read(line.as_slice()) // Some: `a mark m`, and the seal that the next line goes by
 //! ```
 #![tactic(auto)]
 

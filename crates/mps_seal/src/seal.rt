@@ -1,5 +1,5 @@
 //! Seals.
-ghost use Rattle.std.specs.Prelude.{◌≡◌, ◌++◌, ℕ, List, IfOk, OnOk, OnErr, IfSome, IfNone, take};
+ghost use Rattle.std.specs.Prelude.{◌≡◌, ◌++◌, ℕ, List, [], IfOk, OnOk, OnErr, IfSome, IfNone, take};
 ghost use Rattle.mps_base.specs.Numbers.{IsNumberText};
 ghost use Rattle.mps_seal.specs.Seals.{first_seal, next_seal, seal_text, sealed};
 
@@ -74,17 +74,29 @@ impl Seal {
         text
     }
 
-    /// Writes the line after this one with its seal at the end, and gives that seal.
-    pub fn write(&self, line: &[u8], out: &mut Vec<u8>) -> Result<Seal, AllocError>
-        ensures next { IfOk result (λ seal. seal ≡ next_seal self.now line.now) }
-        ensures ok { OnOk result (out.new.items ≡ out.old.items ++ sealed self.now line.now) }
-        ensures err { OnErr result (out.new.items ≡ out.old.items) }
+    /// Writes the seal of the line after this one at the line's end, and gives it.
+    pub fn close(&self, line: &mut Vec<u8>) -> Result<Seal, AllocError>
+        ensures next { IfOk result (λ seal. seal ≡ next_seal self.now line.old.items) }
+        ensures ok { OnOk result (line.new.items ≡ sealed self.now line.old.items) }
+        ensures err { OnErr result (line.new.items ≡ line.old.items) }
     {
-        let seal = self.next(line);
-        out.reserve(line.len() + SEAL_BYTES)?;
-        out.extend_from_slice(line)?;
-        out.extend_from_slice(&seal.text())?;
+        let seal = self.next(line.as_slice());
+        line.extend_from_slice(&seal.text())?;
         Ok(seal)
+    }
+
+    /// The seal of the line after this one, where the line is that seal alone.
+    pub fn alone(&self, line: &[u8]) -> Option<Seal>
+        ensures some { IfSome result (λ seal. line.now ≡ sealed self.now []) }
+        ensures next { IfSome result (λ seal. seal ≡ next_seal self.now []) }
+        ensures none { IfNone result (line.now ≡ sealed self.now [] → ⊥) }
+    {
+        let seal = self.next(b"");
+        if line == seal.text().as_slice() {
+            Some(seal)
+        } else {
+            None
+        }
     }
 
     /// What stands before the seal of the line after this one, and that seal; none where it doesn't end with that seal.

@@ -33,7 +33,7 @@ fn same_message(a: &Message, b: &Message) -> bool
     }
 }
 
-// Whether the slots are the same, or there is none.
+// Whether both have the same slot, or neither has one.
 fn same_slot(a: &Option<Name>, b: &Option<Name>) -> bool
     ensures { IsTrue result ↔ (a.now ≡ b.now) }
 {
@@ -69,7 +69,7 @@ fn same_act(a: &Act, b: &Act) -> bool
     }
 }
 
-// Whether the same was taken, or nothing.
+// Whether both took the same message, or neither took one.
 fn same_taken(a: Option<&Message>, b: Option<&Message>) -> bool
     ensures { IsTrue result ↔ (option_copied a.entry ≡ option_copied b.entry) }
 {
@@ -80,7 +80,7 @@ fn same_taken(a: Option<&Message>, b: Option<&Message>) -> bool
     }
 }
 
-// Whether the steps of the keys did the same.
+// Whether the steps of the keys, each in its log, did the same and took the same message.
 fn same_deed(a: &Log, x: Key, b: &Log, y: Key) -> bool
     requires first { IsSome (keyed_at x a.now.keyed_steps) }
     requires second { IsSome (keyed_at y b.now.keyed_steps) }
@@ -89,7 +89,7 @@ fn same_deed(a: &Log, x: Key, b: &Log, y: Key) -> bool
     same_act(&a.get(x).act, &b.get(y).act) && same_taken(a.taken(x), b.taken(y))
 }
 
-// Whether the role did the same in both, looked at from its last step back.
+// Whether the role did the same in both logs, looked at from its last step back.
 fn same_past(a: &Log, b: &Log, role: Role) -> bool
     requires role { role < 8 }
     requires first { AreSound a.now.keyed_steps }
@@ -98,6 +98,7 @@ fn same_past(a: &Log, b: &Log, role: Role) -> bool
 {
     let mut last = a.last_of(role);
     let mut other = b.last_of(role);
+    // no role has more steps than that, so the walk comes to its end
     for _ in 0..a.len() {
         let Some(x) = last else {
             return other.is_none();
@@ -124,6 +125,7 @@ pub fn same(a: &Session, b: &Session) -> bool
 {
     let ours = &a.configuration.log;
     let theirs = &b.configuration.log;
+    // roles that aren't there did nothing in both
     for role in 0..8 {
         if !same_past(ours, theirs, Role::new(role)) {
             return false;

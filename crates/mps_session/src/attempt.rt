@@ -14,7 +14,7 @@ use crate::session::Session;
 use mps_base::{Role, StepId};
 use mps_command::{Answer, Command, Done, Refusal, StepIds};
 
-// A new step as an answer, and the gist of it.
+// A new step as an answer, and the gist of it, which names the step whose message it took in place of the message.
 #[inline(always)]
 fn stepped(told: (Done, Option<StepId>)) -> (Answer, Gist)
     ensures answer { result.0 ≡ machine.stepped (Ok told.0) }
@@ -41,7 +41,7 @@ fn undid(id: StepId, told: StepIds) -> (Answer, Gist)
     (Answer::Undone(told), Gist::Undid(id))
 }
 
-// Steps that were taken back as an answer, and the gist of it.
+// Steps that were taken back as an answer, and the gist of it, which keeps the copy of their numbers.
 #[inline(always)]
 fn took_back(told: (StepIds, Vec<StepId>)) -> (Answer, Gist)
     ensures answer { result.0 ≡ machine.removed (Ok told.0) }
@@ -55,9 +55,9 @@ fn took_back(told: (StepIds, Vec<StepId>)) -> (Answer, Gist)
 }
 
 impl Session {
-    /// Does what the role asks for, or says why not. The answer is told, and the gist of it, for who keeps what was
-    /// answered. All memory is asked for before anything changes. A refusal changes nothing. The command isn't a
-    /// question.
+    /// Does what the role asks for, or says why not. The answer is told, and the gist of it, for whoever keeps what was
+    /// answered. All memory is asked for before anything changes, so a refusal, `Memory` among them, changes nothing.
+    /// The command isn't a question.
     #[inline(always)]
     pub fn attempt(&mut self, role: Role, command: &Command) -> Result<(Answer, Gist), Refusal>
         requires role { role < length self.old.types }
@@ -76,6 +76,7 @@ impl Session {
             Command::Undo(id) => Ok(undid(*id, self.attempt_undo(role, *id)?)),
             Command::Rollback(id) => Ok(took_back(self.attempt_rollback(role, *id)?)),
             Command::Back(name) => Ok(took_back(self.attempt_back(role, name)?)),
+            // excluded by the clause `change`
             Command::News(_) | Command::Show => unreachable!(),
         }
     }

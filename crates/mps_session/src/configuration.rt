@@ -48,8 +48,8 @@ impl Configuration {
         }
     }
 
-    /// The node at which the role goes on after the step, or why its type doesn't allow it. The message is the
-    /// first that waits for it, if it would take one.
+    /// The node at which the role goes on after the step, or why its type doesn't allow it. `first` is the first
+    /// message that waits for the role, if the step would take one.
     #[inline(always)]
     pub(crate) fn verdict(
         &self,
@@ -74,8 +74,8 @@ impl Configuration {
         next_node(&cursor.table, cursor.node, step, first)
     }
 
-    /// The node at which the role goes on after the step, or why it is refused, unless memory runs out. The message
-    /// is the first that waits for the role, if it would take one.
+    /// The node at which the role goes on after the step, or why it is refused: its type doesn't allow it, else no
+    /// number is left. `first` is the first message that waits for the role, if the step would take one.
     #[inline(always)]
     pub(crate) fn allowed(
         &self,
@@ -105,8 +105,8 @@ impl Configuration {
         Ok(node)
     }
 
-    /// Does the step, after which the role stands at the node. Nothing is changed where
-    /// memory runs out.
+    /// Does the step, which is allowed, and tells its number; the role stands at `node` then. Where memory runs out
+    /// nothing is changed.
     #[inline(always)]
     pub(crate) fn act(
         &mut self,
@@ -124,6 +124,7 @@ impl Configuration {
         let at = self.cursors[role.index()].node.number();
         let id = match step {
             Forward::Send { to, value } => {
+                // the step is lent, and the log keeps a value of its own
                 let value = value.copy(self.alloc)?;
                 self.log.send(role, *to, Message::Value(value), at)?
             }
@@ -139,7 +140,7 @@ impl Configuration {
         Ok(id)
     }
 
-    /// The role stands at the node.
+    /// Puts the role at that node of its table.
     pub(crate) fn stand_at(&mut self, role: Role, node: Node)
         requires { role < vec_len self.old.cursors }
         ensures cursors { self.new.cursors.items ≡ slice_set self.old.cursors.items role
@@ -150,7 +151,7 @@ impl Configuration {
     }
 }
 
-/// The message once more, where there is one. Its kinds are told apart here, and not by `Message::copy`: what that
+/// A copy of the message, where there is one. Its kinds are told apart here, and not by `Message::copy`: what that
 /// gives back would have a place of its own, which each receipt clears.
 #[inline(always)]
 pub(crate) fn once_more(

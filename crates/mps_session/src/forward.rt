@@ -17,7 +17,8 @@ use mps_base::{Role, StepId};
 use mps_command::{Done, Forward, Refusal};
 
 impl Session {
-    /// Does a step of the role, or says why not. A refusal changes nothing.
+    /// Does a step of the role, and tells its number and the message that it took, if it took one; or says why not: the
+    /// violation, else `Full`, else `Memory`. A refusal changes nothing.
     pub fn forward(&mut self, role: Role, step: Forward) -> Result<Done, Refusal>
         requires { role < length self.old.types }
         // In a session of one protocol no answer is Mismatch.
@@ -39,6 +40,7 @@ impl Session {
     {
         // reads a field, since the proof needs what the session keeps, and not its value alone
         let _ = &self.types;
+        // the step that gave the message is told for gists alone
         let (done, _) = self.attempt_forward(role, &step)?;
         Ok(done)
     }
@@ -70,8 +72,8 @@ impl Session {
     }
 
     // Does the step of a receipt or a pick. The message that waits serves the verdict and the answer, the number of its
-    // step the gist: one look at the front of its queue finds both. No other step looks for a message, so these two have
-    // a way of their own.
+    // step the gist: one look at the front of its queue finds both. No other step looks for a message, so these two
+    // have a way of their own.
     #[inline(always)]
     fn attempt_receipt(
         &mut self,
@@ -93,6 +95,7 @@ impl Session {
             None => (None, None),
         };
         let node = configuration.allowed(role, step, first)?;
+        // copied before anything changes, since memory may run out
         let got = once_more(configuration.alloc, first)?;
         let id = self.configuration.act(role, step, node)?;
         Ok((Done { id, got }, source))

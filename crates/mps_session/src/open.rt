@@ -33,6 +33,7 @@ pub enum OpenFault {
 impl From<AllocError> for OpenFault {
     ghost from_gives = { λ _ e. e ≡ OutOfMemory };
 
+    // A failed allocation is `Memory`.
     fn from(_e: AllocError) -> OpenFault {
         OpenFault::Memory
     }
@@ -55,7 +56,7 @@ fn has_peers(n: usize, role: usize, t: &Local) -> bool
     }
 }
 
-// The same of the branches.
+// Whether each peer that these branches of this role's type name is another of the n roles.
 #[cycle(peers)]
 fn have_peers(n: usize, role: usize, branches: &Branches) -> bool
     ensures { IsTrue result ↔ AllBranchPeers (IsOtherRole n role) (plain_branches branches.now) }
@@ -68,7 +69,7 @@ fn have_peers(n: usize, role: usize, branches: &Branches) -> bool
     }
 }
 
-/// The least role whose type names itself or no role of the session. Types without a fault have at
+/// The least role whose type names itself or no role of the session, if there is one. Types without a fault have at
 /// most 256 nodes, and the recursion is no deeper.
 pub(crate) fn first_bad_peer(types: &[Local]) -> Option<Role>
     requires few { length types.now ≤ 8 }
@@ -79,13 +80,15 @@ pub(crate) fn first_bad_peer(types: &[Local]) -> Option<Role>
     let n = types.len();
     for (i, t) in types.iter().enumerate() {
         if !has_peers(n, i, t) {
+            // there are at most 8 types, so the place fits
             return Some(Role::new(i as u8));
         }
     }
     None
 }
 
-/// The same of types of any size, which are taken apart for it.
+/// The least role whose type names itself or no role of the session, if there is one, where types may have faults and
+/// be of any size. They are taken apart for it, in loops.
 pub(crate) fn first_bad_peer_of_any_size(mut types: Vec<Local>) -> Option<Role>
     requires { vec_len types ≤ 8 }
     ensures bad { IfSome result (IsFirstBad (map plain types.items)) }
@@ -93,16 +96,18 @@ pub(crate) fn first_bad_peer_of_any_size(mut types: Vec<Local>) -> Option<Role>
 {
     let count = types.len();
     let mut found = None;
+    // from the last type on, so what is found last is the least
     while let Some(t) = types.pop() {
         let role = types.len();
         if !t.names_others(count, role) {
+            // there are at most 8 types, so the place fits
             found = Some(Role::new(role as u8));
         }
     }
     found
 }
 
-/// The least role whose type has a fault, and its first fault.
+/// The least role whose type has a fault, and the type's first fault, if there is one.
 pub(crate) fn first_faulty(types: &[Local]) -> Option<(Role, LocalFault)>
     requires { length types.now ≤ 8 }
     ensures faulty { IfSome result (λ r. IsLeastFaulty (map plain types.now) r.0 r.1) }
@@ -110,13 +115,15 @@ pub(crate) fn first_faulty(types: &[Local]) -> Option<(Role, LocalFault)>
 {
     for (i, t) in types.iter().enumerate() {
         if let Some(fault) = first_fault(t) {
+            // there are at most 8 types, so the place fits
             return Some((Role::new(i as u8), fault));
         }
     }
     None
 }
 
-/// What a session keeps of roles that did nothing yet.
+/// What a session keeps when nothing was done yet: each role at the node where its type begins, and no step. The types
+/// have no fault.
 pub(crate) fn opening(alloc: Global, types: &[Local]) -> Result<Configuration, AllocError>
     requires faultless { AreFaultless (map plain types.now) }
     requires few { length types.now ≤ 8 }
@@ -129,13 +136,14 @@ pub(crate) fn opening(alloc: Global, types: &[Local]) -> Result<Configuration, A
     })
 }
 
-// Cursors that stand where the types begin.
+// For each type, in order, its table and the node where it begins.
 fn cursors(alloc: Global, types: &[Local]) -> Result<Vec<Cursor>, AllocError>
     requires faultless { AreFaultless (map plain types.now) }
     ensures { IfOk result (λ all. AreStarts (map plain types.now) all.items) }
 {
     let mut all = Vec::with_capacity(alloc, types.len())?;
     for t in types {
+        // the types have no fault, so memory ran out
         let Ok(table) = compile(alloc, t) else {
             return Err(AllocError);
         };

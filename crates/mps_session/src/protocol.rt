@@ -34,6 +34,7 @@ pub enum ProtocolFault {
 impl From<GlobalFault> for ProtocolFault {
     ghost from_gives = { λ e fault. fault ≡ HasFault e };
 
+    // A protocol's own fault is why it has no session.
     fn from(fault: GlobalFault) -> ProtocolFault {
         ProtocolFault::Global(fault)
     }
@@ -42,6 +43,7 @@ impl From<GlobalFault> for ProtocolFault {
 impl From<ProjectFault> for ProtocolFault {
     ghost from_gives = { λ e fault. fault ≡ of_projection e };
 
+    // Why a protocol can't be projected is why it has no session.
     fn from(fault: ProjectFault) -> ProtocolFault {
         match fault {
             ProjectFault::Unmergeable { role, choice } => ProtocolFault::Unmergeable {
@@ -56,13 +58,14 @@ impl From<ProjectFault> for ProtocolFault {
 impl From<AllocError> for ProtocolFault {
     ghost from_gives = { λ _ fault. fault ≡ OutOfMemory };
 
+    // A failed allocation is `Memory`.
     fn from(_: AllocError) -> ProtocolFault {
         ProtocolFault::Memory
     }
 }
 
-/// A session of these types, the projections of one protocol without faults, in which nothing was done yet. No command
-/// is refused there with `Mismatch`, whatever the roles do.
+/// A session of these types, the projections of one protocol without faults, in which nothing was done yet. It fails
+/// for want of memory alone. No command is refused there with `Mismatch`, whatever the roles do.
 pub fn open_types(alloc: Global, types: Vec<Local>) -> Result<Session, AllocError>
     requires { AreOfOneProtocol (map plain types.items) }
     ensures { IfOk result (λ session. session ≡ record { types = map plain types.items; state = initial }) }
@@ -70,14 +73,15 @@ pub fn open_types(alloc: Global, types: Vec<Local>) -> Result<Session, AllocErro
     match Session::open(alloc, types) {
         Ok(session) => Ok(session),
         Err(OpenFault::Memory) => Err(AllocError),
+        // projections of one protocol have no such fault
         Err(OpenFault::RoleCount) => unreachable!(),
         Err(OpenFault::BadPeer { .. }) => unreachable!(),
         Err(OpenFault::Local { .. }) => unreachable!(),
     }
 }
 
-/// A session of the protocol, in which nothing was done yet: each role's type is its projection. No
-/// command is refused there with `Mismatch`, whatever the roles do.
+/// A session of the protocol, in which nothing was done yet: each role's type is its projection. `Memory` comes only
+/// for a protocol without a fault. No command is refused there with `Mismatch`, whatever the roles do.
 pub fn open_protocol(alloc: Global, protocol: &Protocol) -> Result<Session, ProtocolFault>
     ensures faultless { OnOk result
         (fault_of protocol.now.roles.items (global_type protocol.now.body) ≡ None) }

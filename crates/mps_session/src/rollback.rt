@@ -42,7 +42,8 @@ fn space_for(alloc: Global, count: usize) -> Result<(Vec<StepId>, Vec<StepId>), 
     ))
 }
 
-// The numbers, and a copy of them in the memory that there is for it.
+// The numbers, and a copy of them in the memory that there is for it. One number alone is kept without a list, so its
+// list is the copy.
 fn with_copy(ids: Vec<StepId>, space: Vec<StepId>) -> (StepIds, Vec<StepId>)
     requires empty { space.items ≡ [] }
     requires space { vec_len ids ≢ 1 → vec_len ids ≤ vec_capacity space }
@@ -53,13 +54,14 @@ fn with_copy(ids: Vec<StepId>, space: Vec<StepId>) -> (StepIds, Vec<StepId>)
         return (StepIds::one(*id), ids);
     }
     let mut copy = space;
+    // never: there is space for all
     if copy.extend_from_slice(&ids).is_err() {
         unreachable!()
     }
     (StepIds::of(ids), copy)
 }
 
-// No numbers, and a copy of them.
+// No numbers, and a copy of them, for a return to a mark that takes nothing back. It does not allocate.
 fn nothing(alloc: Global) -> (StepIds, Vec<StepId>)
     ensures first { result.0 ≡ [] }
     ensures copy { result.1.items ≡ [] }
@@ -90,8 +92,8 @@ impl Configuration {
     }
 
     /// Removes the step of that number, as definitions name it, and all that depend on it, the newest first, and tells
-    /// their numbers, with a copy for who keeps what was answered. Where a commit is among them, the least is named.
-    /// Nothing is changed then, nor where memory runs out.
+    /// their numbers, with a copy for whoever keeps what was answered. Where a commit is among them, the least is
+    /// named. Nothing is changed then, nor where memory runs out.
     #[inline(never)]
     pub(crate) fn take_back(&mut self, id: StepId) -> Result<(StepIds, Vec<StepId>), Refusal>
         requires present { IsSome (step_of (steps (lists_of self.old).keyed_steps) id) }
@@ -117,6 +119,7 @@ impl Configuration {
     {
         let count = self.log.choose_from(id);
         match self.space_for_chosen(count) {
+            // nothing fails from here on
             Ok((mut ids, space)) => {
                 self.remove_chosen(&mut ids);
                 Ok(with_copy(ids, space))
@@ -136,6 +139,7 @@ impl Configuration {
         ensures fault { result_err result ≡ final_fault (steps (lists_of self.old).keyed_steps) id }
         ensures kept { lists_of self.new ≡ lists_of self.old }
     {
+        // how many they are isn't needed
         self.log.choose_from(id);
         let by = self.log.least_final();
         self.log.choose_none();
@@ -145,7 +149,8 @@ impl Configuration {
         }
     }
 
-    /// Removes the chosen steps, the newest first, and adds their numbers to the others.
+    /// Removes the chosen steps, the newest first, and adds their numbers at the end of `ids`, which has space for
+    /// them.
     pub(crate) fn remove_chosen(&mut self, ids: &mut Vec<StepId>)
         requires closed { AreMarksClosed (lists_of self.old).keyed_steps }
         requires members { AllByRecursion
@@ -183,8 +188,9 @@ impl Configuration {
 }
 
 impl Session {
-    /// Undoes the role's own step of that number and all that depend on it, and tells their numbers, the newest
-    /// first. A commit among them stands in the way. A refusal changes nothing.
+    /// Undoes the role's own step of that number and all that depend on it, and tells their numbers, the newest first.
+    /// The refusal is `NoStep`, `NotYours`, `Final` where a commit is among them, or `Memory` where there is none for
+    /// the numbers; it changes nothing.
     pub fn rollback(&mut self, role: Role, id: StepId) -> Result<StepIds, Refusal>
         requires { role < length self.old.types }
         ensures answer { IsAnswer result (machine.rollback self.old.state role id).0 }
@@ -197,11 +203,12 @@ impl Session {
             ≡ Some (session_view self.old)) }
         ensures err { OnErr result (self.new.state ≡ self.old.state) }
     {
+        // the copy is for journals
         let (ids, _) = self.attempt_rollback(role, id)?;
         Ok(ids)
     }
 
-    /// Does what `rollback` does, and tells a copy of the numbers besides.
+    /// Rolls back as `rollback` does, and gives a copy of the numbers besides, for whoever keeps what was answered.
     #[inline(always)]
     pub(crate) fn attempt_rollback(
         &mut self,
@@ -217,12 +224,14 @@ impl Session {
             (within self.old.state.history (consequences self.old.state.history id))
             ≡ Some (session_view self.old)) }
     {
+        // the key isn't needed: what depends on the step is asked by its number
         self.configuration.own_step(role, id)?;
         self.configuration.take_back(id)
     }
 
-    /// Returns the role to its last mark of the name: its first step after the mark is undone, and all that
-    /// depend on it. The mark stays. A refusal changes nothing.
+    /// Returns the role to its last mark of the name: its first step after the mark is undone, if there is one, with
+    /// all that depend on it, and their numbers are told, the newest first. The mark stays. The refusal is `NoMark`,
+    /// `Final` where a commit is among them, or `Memory` where there is none for the numbers; it changes nothing.
     pub fn back(&mut self, role: Role, name: &Name) -> Result<StepIds, Refusal>
         requires { role < length self.old.types }
         ensures answer { IsAnswer result (machine.back self.old.state role name.now).0 }
@@ -234,11 +243,12 @@ impl Session {
             (within self.old.state.history (is_among ids)) ≡ Some (session_view self.old)) }
         ensures err { OnErr result (self.new.state ≡ self.old.state) }
     {
+        // the copy is for journals
         let (ids, _) = self.attempt_back(role, name)?;
         Ok(ids)
     }
 
-    /// Does what `back` does, and tells a copy of the numbers besides.
+    /// Returns to a mark as `back` does, and gives a copy of the numbers besides, for whoever keeps what was answered.
     #[inline(always)]
     pub(crate) fn attempt_back(
         &mut self,

@@ -7,7 +7,7 @@ use crate::session::Session;
 use mps_base::Role;
 use mps_command::{Answer, Change, Command};
 
-// The command that asks for the change.
+// Turns a change into the command that asks for it; nothing is copied.
 fn command_of(change: Change) -> Command
     ensures { result ≡ command_of change }
 {
@@ -20,14 +20,15 @@ fn command_of(change: Change) -> Command
 }
 
 impl Session {
-    /// Makes the change that the role asks for, or says why not, as `attempt` does. A single undo is answered like a
-    /// rollback of one step. A refusal changes nothing.
+    /// Makes the change that the role asks for, or answers why not, as `attempt` does. An undo is answered like a
+    /// rollback of one step, and is never refused for want of memory. A refusal changes nothing.
     pub fn serve(&mut self, role: Role, change: Change) -> Answer
         requires { role < length self.old.types }
         ensures served { IsChanged self.old.types role change (result_of result)
             self.old.state self.new.state }
         ensures types { self.new.types ≡ self.old.types }
     {
+        // a gist is made too, and dropped: there is one way, that of `attempt`
         match self.attempt(role, &command_of(change)) {
             Ok((answer, _)) => answer,
             Err(refusal) => Answer::Refused(refusal),

@@ -43,8 +43,9 @@ impl Model for Session {
 }
 
 impl Session {
-    /// A session in which nothing was done yet. Any types may be given, of any size: they needn't fit
-    /// each other.
+    /// A session in which nothing was done yet. Any types may be given, of any size: they needn't fit each other. The
+    /// count of roles is looked at first, then the peers that the types name, then other faults of the types; memory
+    /// comes last.
     pub fn open(alloc: Global, types: Vec<Local>) -> Result<Session, OpenFault>
         ensures opened { IfOk result (λ session. session
             ≡ record { types = map plain types.items; state = machine.initial }) }
@@ -62,7 +63,8 @@ impl Session {
             return Err(OpenFault::RoleCount);
         }
         if let Some((role, fault)) = first_faulty(types.as_slice()) {
-            // no session comes of these types, so they may be taken apart
+            // A bad peer is reported before any other fault. Such types may be too deep to recurse into, but no session
+            // comes of them, so they may be taken apart.
             return Err(match first_bad_peer_of_any_size(types) {
                 Some(role) => OpenFault::BadPeer { role },
                 None => OpenFault::Local { role, fault },

@@ -41,7 +41,7 @@ impl Session {
         self.types.len()
     }
 
-    /// How many numbers were given out.
+    /// How many numbers were given out, also to steps that were taken back since.
     pub fn issued(&self) -> u64
         ensures { result + 1 ≡ self.now.state.next }
     {
@@ -56,7 +56,7 @@ impl Session {
         self.configuration.log.len()
     }
 
-    /// The k-th surviving step, from 0. It takes O(k) time.
+    /// The k-th surviving step, from 0, if so many survive: its number, its role and its act. It takes O(k) time.
     pub fn step(&self, k: usize) -> Option<(StepId, Role, &Act)>
         ensures { option_map as_step result ≡ slice_get self.now.state.history k }
     {
@@ -72,7 +72,7 @@ impl Session {
         self.configuration.log.moves()
     }
 
-    /// What the role keeps in the slot.
+    /// What the role keeps in the slot; none where the slot isn't bound.
     pub fn slot(&self, role: Role, slot: &Name) -> Option<&Value>
         requires { role < length self.now.types }
         ensures { option_copied result
@@ -81,8 +81,8 @@ impl Session {
         self.configuration.log.value(role, slot)
     }
 
-    /// The k-th message that waits, from 0, of those that one role sent to another; none where either is no role of
-    /// the session. It takes O(k) time.
+    /// The k-th message that waits, from 0, of those that one role sent to another, if so many wait; none where either
+    /// is no role of the session. It takes O(k) time.
     pub fn message(&self, from: Role, to: Role, k: usize) -> Option<&Message>
         ensures { option_copied result
             ≡ slice_get ((session_view self.now).queue from to) k }
@@ -106,7 +106,7 @@ impl Session {
         self.configuration.log.slots(role)
     }
 
-    /// The role's slot that was bound as the k-th, from 0, and what the role keeps there.
+    /// The role's slot that was first bound as the k-th, from 0, and what the role keeps there, if so many are bound.
     pub fn binding(&self, role: Role, k: usize) -> Option<(&Name, &Value)>
         requires { role < length self.now.types }
         ensures { option_map (deref_pair {K = List ℕ} {X = Value}) result

@@ -36,7 +36,8 @@ fn is_commit(act: &Act) -> bool
 }
 
 impl Configuration {
-    /// The key of the role's own step of that number, or why the role may not undo it.
+    /// The key of the role's own step of that number; `NoStep` where no step of the number survives, `NotYours` where
+    /// it is another role's.
     pub(crate) fn own_step(&self, role: Role, id: StepId) -> Result<Key, Refusal>
         ensures own { OnOk result (owner_fault role
             (step_of (steps (lists_of self.now).keyed_steps) id) ≡ None) }
@@ -57,8 +58,9 @@ impl Configuration {
         }
     }
 
-    /// The key of the role's own step of that number, where it may be undone by itself, or why not. What depends on the
-    /// step is asked by its number, as definitions are: to find its key once more takes a few loads.
+    /// The key of the role's own step of that number, where it may be undone by itself, or why not: as `own_step`, else
+    /// `Final` for a commit, else `Needed` with the least step that depends on it. What depends on the step is asked by
+    /// its number, as definitions are: to find its key once more takes a few loads.
     pub(crate) fn free_step(&self, role: Role, id: StepId) -> Result<Key, Refusal>
         ensures own { OnOk result (owner_fault role
             (step_of (steps (lists_of self.now).keyed_steps) id) ≡ None) }
@@ -81,8 +83,8 @@ impl Configuration {
         }
     }
 
-    /// Removes a step that is the last of its role and, if it is a send or a choice, isn't received. Its role stands
-    /// again where it stood before the step. Tells the step's number.
+    /// Removes a step that is the last of its role and, if it is a send or a choice, isn't received, and tells its
+    /// number. The step's role stands again where it stood before the step.
     pub(crate) fn remove(&mut self, key: Key) -> StepId
         requires can { CanGo (lists_of self.old).keyed_steps key }
         requires role { IfSome (keyed_at key (lists_of self.old).keyed_steps)
@@ -117,7 +119,7 @@ impl Session {
         Ok(())
     }
 
-    /// Does what `undo` does, and tells its number.
+    /// Undoes a step as `undo` does, and tells its number.
     #[inline(always)]
     pub(crate) fn attempt_undo(&mut self, role: Role, id: StepId) -> Result<StepIds, Refusal>
         requires { role < length self.old.types }

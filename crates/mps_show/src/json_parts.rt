@@ -13,7 +13,7 @@ use serde_json::{Value as Json, json};
 use std::alloc::{AllocError, Global};
 use std::str;
 
-// Bytes below 128 as a string.
+// Makes a JSON string of bytes below 128. They are UTF-8, so only memory may be lacking.
 fn text(alloc: Global, bytes: &[u8]) -> Result<Json, AllocError>
     requires { IsAscii bytes.now }
     ensures { IfOk result (λ v. view v ≡ string bytes.now) }
@@ -24,14 +24,14 @@ fn text(alloc: Global, bytes: &[u8]) -> Result<Json, AllocError>
     }
 }
 
-// A name.
+// Makes a JSON string of a name.
 fn name(alloc: Global, name: &Name) -> Result<Json, AllocError>
     ensures { IfOk result (λ v. view v ≡ string name.now) }
 {
     text(alloc, name.as_bytes())
 }
 
-/// The name of a role.
+/// Makes a JSON string of the name of a role.
 pub(crate) fn role(alloc: Global, names: &Roles, role: Role) -> Result<Json, AllocError>
     requires { role < length names.now }
     ensures { IfOk result (λ v. view v ≡ role_name names.now role) }
@@ -39,7 +39,7 @@ pub(crate) fn role(alloc: Global, names: &Roles, role: Role) -> Result<Json, All
     name(alloc, &names.name(role))
 }
 
-// A value.
+// Makes a JSON value of a session's value: a number, `true` or `false`, or a string of a text's content.
 fn value(alloc: Global, value: &Value) -> Result<Json, AllocError>
     ensures { IfOk result (λ v. view v ≡ value_shown value.now) }
 {
@@ -50,7 +50,8 @@ fn value(alloc: Global, value: &Value) -> Result<Json, AllocError>
     }
 }
 
-// A message in a step.
+// Makes a JSON value of a message as it stands in a step: a label is a string, since the step's word tells it from a
+// text.
 fn moved(alloc: Global, message: &Message) -> Result<Json, AllocError>
     ensures { IfOk result (λ v. view v ≡ moved_shown message.now) }
 {
@@ -60,7 +61,7 @@ fn moved(alloc: Global, message: &Message) -> Result<Json, AllocError>
     }
 }
 
-/// A message in a queue.
+/// Makes a JSON value of a message as it stands in a queue: a label is an object, which tells it from a text.
 pub(crate) fn waiting(alloc: Global, message: &Message) -> Result<Json, AllocError>
     ensures { IfOk result (λ v. view v ≡ waiting_shown message.now) }
 {
@@ -73,7 +74,7 @@ pub(crate) fn waiting(alloc: Global, message: &Message) -> Result<Json, AllocErr
     }
 }
 
-/// A slot with its value.
+/// Makes a JSON array of a slot and its value.
 pub(crate) fn binding(alloc: Global, slot: &Name, kept: &Value) -> Result<Json, AllocError>
     ensures { IfOk result (λ v. view v ≡ binding_shown (slot.now, kept.now)) }
 {
@@ -83,7 +84,7 @@ pub(crate) fn binding(alloc: Global, slot: &Name, kept: &Value) -> Result<Json, 
     Ok(Json::Array(parts))
 }
 
-/// A step, with the message that it gave or took.
+/// Makes a JSON array of a step, with the message that it gave or took.
 pub(crate) fn step(
     alloc: Global,
     names: &Roles,
@@ -100,7 +101,7 @@ pub(crate) fn step(
     Ok(Json::Array(parts))
 }
 
-// What the act is, and what it gave or took.
+// Adds to a step's array what the act is, and what it gave or took.
 fn push_act(
     alloc: Global,
     names: &Roles,
@@ -120,7 +121,7 @@ fn push_act(
     }
 }
 
-// A send or a choice.
+// Adds to a step's array a send or a choice: its word, the peer, and what it gave.
 fn push_out(
     alloc: Global,
     names: &Roles,
@@ -142,7 +143,7 @@ fn push_out(
     Ok(())
 }
 
-// A receipt or a pick.
+// Adds to a step's array a receipt or a pick: its word, the peer, the slot of a receipt, and what it took.
 fn push_in(
     alloc: Global,
     names: &Roles,
@@ -169,7 +170,7 @@ fn push_in(
     push_taken(alloc, moved, parts)
 }
 
-// What was taken.
+// Adds to a step's array the message that was taken, if there is one.
 fn push_taken(
     alloc: Global,
     taken: Option<&Message>,
@@ -184,7 +185,7 @@ fn push_taken(
     Ok(())
 }
 
-// A mark.
+// Adds to a step's array a mark: its word and its name.
 fn push_mark(alloc: Global, mark: &Name, parts: &mut Vec<Json>) -> Result<(), AllocError>
     ensures { OnOk result (map view parts.new.items
         ≡ map view parts.old.items ++ string (codes "mark") ∷ string mark.now ∷ []) }
@@ -194,7 +195,7 @@ fn push_mark(alloc: Global, mark: &Name, parts: &mut Vec<Json>) -> Result<(), Al
     Ok(())
 }
 
-// A commit.
+// Adds to a step's array a commit, which is its word alone.
 fn push_commit(alloc: Global, parts: &mut Vec<Json>) -> Result<(), AllocError>
     ensures { OnOk result (map view parts.new.items
         ≡ map view parts.old.items ++ string (codes "commit") ∷ []) }

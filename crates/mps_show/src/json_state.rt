@@ -16,7 +16,8 @@ use mps_session::Session;
 use serde_json::{Value as Json, json};
 use std::alloc::{AllocError, Global};
 
-/// What the session shows, as a JSON value: its history, its queues, and each role.
+/// What the session shows, as a JSON value: its history, its queues, and each role. The names are those of its roles.
+/// Where memory runs out, what was made is dropped.
 pub fn show(alloc: Global, names: &Roles, session: &Session) -> Result<Json, AllocError>
     requires { length names.now ≡ length session.now.types }
     ensures { IfOk result (λ v. view v
@@ -28,7 +29,7 @@ pub fn show(alloc: Global, names: &Roles, session: &Session) -> Result<Json, All
     json!(in alloc; {"history": history, "queues": queues, "roles": roles})
 }
 
-// The surviving steps, each with what it gave or took.
+// Makes a JSON array of the surviving steps, each with what it gave or took.
 fn history(alloc: Global, names: &Roles, session: &Session) -> Result<Json, AllocError>
     requires { length names.now ≡ length session.now.types }
     ensures { IfOk result (λ v. view v ≡ row (map (step_shown names.now) (moves_of session.now))) }
@@ -40,7 +41,7 @@ fn history(alloc: Global, names: &Roles, session: &Session) -> Result<Json, Allo
     Ok(Json::Array(rows))
 }
 
-// The queues in which something waits, by sender and then by receiver.
+// Makes a JSON array of the queues in which something waits, by sender and then by receiver.
 fn queues(alloc: Global, names: &Roles, session: &Session) -> Result<Json, AllocError>
     requires { length names.now ≡ length session.now.types }
     ensures { IfOk result (λ v. view v
@@ -48,13 +49,14 @@ fn queues(alloc: Global, names: &Roles, session: &Session) -> Result<Json, Alloc
 {
     let n = session.roles();
     let mut rows = Vec::new(alloc);
+    // places of roles are below 8, so they fit
     for p in 0..n {
         push_queues(alloc, names, session, Role::new(p as u8), &mut rows)?;
     }
     Ok(Json::Array(rows))
 }
 
-// The queues from one role.
+// Adds the queues from one role in which something waits, by receiver.
 fn push_queues(
     alloc: Global,
     names: &Roles,
@@ -68,13 +70,14 @@ fn push_queues(
         ++ queues_from names.now (length session.now.types) (session_view session.now) from) }
 {
     let n = session.roles();
+    // places of roles are below 8, so they fit
     for q in 0..n {
         push_queue(alloc, names, session, from, Role::new(q as u8), rows)?;
     }
     Ok(())
 }
 
-// The queue from one role to another, where something waits in it.
+// Adds the queue from one role to another, as an array of both names and the messages, where something waits in it.
 fn push_queue(
     alloc: Global,
     names: &Roles,
@@ -101,7 +104,7 @@ fn push_queue(
     Ok(())
 }
 
-// The messages that wait from one role to another.
+// Makes JSON values of the messages that wait from one role to another, the first message first.
 fn messages(alloc: Global, session: &Session, from: Role, to: Role) -> Result<Vec<Json>, AllocError>
     ensures { IfOk result (λ all. map view all.items
         ≡ map waiting_shown ((session_view session.now).queue from to)) }
@@ -113,7 +116,7 @@ fn messages(alloc: Global, session: &Session, from: Role, to: Role) -> Result<Ve
     Ok(all)
 }
 
-// The roles in order.
+// Makes a JSON array of the roles, in order.
 fn roles(alloc: Global, names: &Roles, session: &Session) -> Result<Json, AllocError>
     requires { length names.now ≡ length session.now.types }
     ensures { IfOk result (λ v. view v
@@ -121,13 +124,14 @@ fn roles(alloc: Global, names: &Roles, session: &Session) -> Result<Json, AllocE
 {
     let n = session.roles();
     let mut rows = Vec::with_capacity(alloc, n)?;
+    // places of roles are below 8, so they fit
     for p in 0..n {
         rows.push(participant(alloc, names, session, Role::new(p as u8))?)?;
     }
     Ok(Json::Array(rows))
 }
 
-// A role: what it may do next, what it did, its name, and what it keeps.
+// Makes a JSON object of a role: what it may do next, what it did, its name, and what it keeps.
 fn participant(
     alloc: Global,
     names: &Roles,
@@ -147,7 +151,7 @@ fn participant(
     json!(in alloc; {"expects": expects, "past": past, "role": name, "store": store})
 }
 
-// What the role may do next.
+// Makes a JSON string of what the role may do next. The words are ASCII, so only memory may be lacking.
 fn expects(alloc: Global, names: &Roles, session: &Session, role: Role) -> Result<Json, AllocError>
     requires count { length names.now ≡ length session.now.types }
     requires role { role < length session.now.types }
@@ -162,7 +166,7 @@ fn expects(alloc: Global, names: &Roles, session: &Session, role: Role) -> Resul
     }
 }
 
-// The numbers of the role's surviving steps.
+// Makes a JSON array of the numbers of the role's surviving steps. It walks over the steps of all roles.
 fn past(alloc: Global, session: &Session, role: Role) -> Result<Json, AllocError>
     ensures { IfOk result (λ v. view v
         ≡ row (map number_shown (numbers (steps_of role session.now.state.history)))) }
@@ -174,7 +178,7 @@ fn past(alloc: Global, session: &Session, role: Role) -> Result<Json, AllocError
     Ok(Json::Array(all))
 }
 
-// The number of a step of the role.
+// Adds the number of the step, if it is one of the role.
 fn push_own(role: Role, step: &Step, all: &mut Vec<Json>) -> Result<(), AllocError>
     ensures { OnOk result (map view all.new.items ≡ map view all.old.items ++ own_number role step.now) }
 {
@@ -184,7 +188,7 @@ fn push_own(role: Role, step: &Step, all: &mut Vec<Json>) -> Result<(), AllocErr
     Ok(all.push(Json::from(step.id.number()))?)
 }
 
-// The slots of the role, each with its value.
+// Makes a JSON array of the slots of the role, each with its value, in the order in which they were first bound.
 fn store(alloc: Global, session: &Session, role: Role) -> Result<Json, AllocError>
     requires { role < length session.now.types }
     ensures { IfOk result (λ v. view v
@@ -193,6 +197,7 @@ fn store(alloc: Global, session: &Session, role: Role) -> Result<Json, AllocErro
     let count = session.slots(role);
     let mut all = Vec::with_capacity(alloc, count)?;
     for k in 0..count {
+        // never: so many are bound
         let Some(binding) = session.binding(role, k) else {
             unreachable!()
         };

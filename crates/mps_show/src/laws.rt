@@ -9,8 +9,8 @@ ghost use Rattle.serde_json.specs.View.{view};
 ghost use Rattle.serde_json.specs.Written.{has_float, compact_text};
 ghost use Rattle.serde_json.specs.declared.value.Value.{Value};
 
-/// A value that stands for what is shown has its text: no number in it is a float, so what `serde_json` writes
-/// of it is known to the byte.
+/// A JSON value that stands for what a session shows has one text, that of `show_text`: no number in it is a float, so
+/// what `serde_json` writes of it is known to the byte.
 pub fn a_shown_value_has_one_text()
     ensures no_float { (names : List (List ℕ)) (types : List LocalType) (h : List Step)
         → has_float (shown names types h) ≡ false }

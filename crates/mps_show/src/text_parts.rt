@@ -17,13 +17,15 @@ use itoa::Buffer;
 use mps_base::{Act, Message, Name, Role, Roles, Step, StepId, Value};
 use std::alloc::AllocError;
 
-// Writes plain bytes between quotes.
+// Writes a JSON string of plain bytes, which need no escapes: none is a quote or a backslash. After an error nothing is
+// written.
 #[inline(always)]
 fn put_string(out: &mut Vec<u8>, bytes: &[u8]) -> Result<(), AllocError>
     requires { AllByRecursion IsPlainByte bytes.now }
     ensures text { OnOk result (out.new.items ≡ out.old.items ++ compact_text (string bytes.now)) }
     ensures plain { OnOk result (IsPlain (string bytes.now)) }
 {
+    // for both quotes too, so that nothing below fails
     out.reserve(bytes.len() + 2)?;
     out.push_reserved(b'"');
     out.extend_from_slice(bytes)?;
@@ -31,7 +33,7 @@ fn put_string(out: &mut Vec<u8>, bytes: &[u8]) -> Result<(), AllocError>
     Ok(())
 }
 
-/// Writes a comma, where something stands before.
+/// Writes a comma, where something stands before it in the array.
 pub(crate) fn put_comma(out: &mut Vec<u8>, later: bool) -> Result<(), AllocError>
     ensures { OnOk result (out.new.items ≡ out.old.items ++ comma_if later) }
 {
@@ -41,7 +43,7 @@ pub(crate) fn put_comma(out: &mut Vec<u8>, later: bool) -> Result<(), AllocError
     Ok(())
 }
 
-// Writes a name.
+// Writes a name as a JSON string.
 #[inline(always)]
 fn put_name(out: &mut Vec<u8>, name: &Name) -> Result<(), AllocError>
     ensures text { OnOk result (out.new.items ≡ out.old.items ++ compact_text (string name.now)) }
@@ -50,7 +52,7 @@ fn put_name(out: &mut Vec<u8>, name: &Name) -> Result<(), AllocError>
     put_string(out, name.as_bytes())
 }
 
-/// Writes the name of a role.
+/// Writes the name of a role as a JSON string.
 #[inline(always)]
 pub(crate) fn put_role(out: &mut Vec<u8>, names: &Roles, role: Role) -> Result<(), AllocError>
     requires { role < length names.now }
@@ -60,7 +62,7 @@ pub(crate) fn put_role(out: &mut Vec<u8>, names: &Roles, role: Role) -> Result<(
     put_name(out, &names.name(role))
 }
 
-/// Writes the number of a step.
+/// Writes the number of a step as a JSON number.
 #[inline(always)]
 pub(crate) fn put_number(out: &mut Vec<u8>, id: StepId) -> Result<(), AllocError>
     ensures { OnOk result (out.new.items ≡ out.old.items ++ compact_text (number_shown id)) }
@@ -69,7 +71,7 @@ pub(crate) fn put_number(out: &mut Vec<u8>, id: StepId) -> Result<(), AllocError
     out.extend_from_slice(digits.format(id.number()).as_bytes())
 }
 
-// Writes an int.
+// Writes an integer as a JSON number.
 fn put_int(out: &mut Vec<u8>, n: i64) -> Result<(), AllocError>
     ensures { OnOk result (out.new.items ≡ out.old.items ++ compact_text (number (of_integer n))) }
 {
@@ -77,7 +79,8 @@ fn put_int(out: &mut Vec<u8>, n: i64) -> Result<(), AllocError>
     out.extend_from_slice(digits.format(n).as_bytes())
 }
 
-// Writes a value.
+// Writes a value as JSON: a number, `true` or `false`, or a string, where a text's content needs no escapes. No clause
+// says what `out` has after an error.
 #[inline(always)]
 fn put_value(out: &mut Vec<u8>, value: &Value) -> Result<(), AllocError>
     ensures text { OnOk result (out.new.items ≡ out.old.items ++ compact_text (value_shown value.now)) }
@@ -91,7 +94,8 @@ fn put_value(out: &mut Vec<u8>, value: &Value) -> Result<(), AllocError>
     }
 }
 
-// Writes a message in a step.
+// Writes a message as JSON as it stands in a step: a label is a string, since the step's word tells it from a text. No
+// clause says what `out` has after an error.
 fn put_moved(out: &mut Vec<u8>, message: &Message) -> Result<(), AllocError>
     ensures text { OnOk result (out.new.items ≡ out.old.items ++ compact_text (moved_shown message.now)) }
     ensures plain { OnOk result (IsPlain (moved_shown message.now)) }
@@ -102,7 +106,8 @@ fn put_moved(out: &mut Vec<u8>, message: &Message) -> Result<(), AllocError>
     }
 }
 
-/// Writes a message in a queue.
+/// Writes a message as JSON as it stands in a queue: a label is an object, which tells it from a text. After an error a
+/// part may stand in `out`.
 pub(crate) fn put_waiting(out: &mut Vec<u8>, message: &Message) -> Result<(), AllocError>
     ensures text { OnOk result (out.new.items ≡ out.old.items ++ compact_text (waiting_shown message.now)) }
     ensures plain { OnOk result (IsPlain (waiting_shown message.now)) }
@@ -113,7 +118,7 @@ pub(crate) fn put_waiting(out: &mut Vec<u8>, message: &Message) -> Result<(), Al
     }
 }
 
-// Writes a label in a queue.
+// Writes a label of a queue as a JSON object. After an error a part may stand in `out`.
 fn put_label(out: &mut Vec<u8>, label: &Name) -> Result<(), AllocError>
     ensures text { OnOk result (out.new.items ≡ out.old.items ++ compact_text (waiting_shown (Label label.now))) }
     ensures plain { OnOk result (IsPlain (waiting_shown (Label label.now))) }
@@ -123,7 +128,7 @@ fn put_label(out: &mut Vec<u8>, label: &Name) -> Result<(), AllocError>
     Ok(out.push(b'}')?)
 }
 
-/// Writes a step, with the message that it gave or took.
+/// Writes a step as a JSON array, with the message that it gave or took. After an error a part may stand in `out`.
 pub(crate) fn put_step(
     out: &mut Vec<u8>,
     names: &Roles,
@@ -142,7 +147,8 @@ pub(crate) fn put_step(
     put_act(out, names, &step.act, moved)
 }
 
-// Writes what the act is and what it moved, after a role, and the end of the step.
+// Writes the rest of a step's array after its role: what the act is, what it moved, and the bracket. After an error a
+// part may stand in `out`.
 fn put_act(
     out: &mut Vec<u8>,
     names: &Roles,
@@ -162,7 +168,8 @@ fn put_act(
     }
 }
 
-// Writes a send or a choice, after its role, and the end of the step.
+// Writes the rest of the array of a send or a choice after its role, with the bracket. After an error a part may stand
+// in `out`.
 fn put_out(out: &mut Vec<u8>, names: &Roles, to: Role, message: &Message) -> Result<(), AllocError>
     requires { to < length names.now }
     ensures text { OnOk result (out.new.items
@@ -179,7 +186,8 @@ fn put_out(out: &mut Vec<u8>, names: &Roles, to: Role, message: &Message) -> Res
     Ok(out.push(b']')?)
 }
 
-// Writes a receipt or a pick, after its role, and the end of the step.
+// Writes the rest of the array of a receipt or a pick after its role, with the bracket. After an error a part may stand
+// in `out`.
 fn put_in(
     out: &mut Vec<u8>,
     names: &Roles,
@@ -208,7 +216,8 @@ fn put_in(
     put_taken(out, moved)
 }
 
-// Writes what was taken, and the end of the step.
+// Writes the message that was taken, if there is one, and the bracket that ends the step. After an error a part may
+// stand in `out`.
 fn put_taken(out: &mut Vec<u8>, moved: Option<&Message>) -> Result<(), AllocError>
     ensures text { OnOk result (out.new.items
         ≡ out.old.items ++ items_text true (items_of (taken_shown (option_copied moved.entry)))) }
@@ -221,7 +230,7 @@ fn put_taken(out: &mut Vec<u8>, moved: Option<&Message>) -> Result<(), AllocErro
     Ok(out.push(b']')?)
 }
 
-// Writes a mark, after its role, and the end of the step.
+// Writes the rest of the array of a mark after its role, with the bracket. After an error a part may stand in `out`.
 fn put_mark(out: &mut Vec<u8>, mark: &Name) -> Result<(), AllocError>
     ensures text { OnOk result (out.new.items
         ≡ out.old.items ++ items_text true (items_of (string (codes "mark") ∷ string mark.now ∷ []))) }
@@ -232,7 +241,7 @@ fn put_mark(out: &mut Vec<u8>, mark: &Name) -> Result<(), AllocError>
     Ok(out.push(b']')?)
 }
 
-// Writes a commit, after its role, and the end of the step.
+// Writes the rest of the array of a commit after its role, with the bracket.
 #[tactic(auto, using(crate::proofs::Texts::words_stand))]
 fn put_commit(out: &mut Vec<u8>) -> Result<(), AllocError>
     ensures text { OnOk result (out.new.items
@@ -242,7 +251,7 @@ fn put_commit(out: &mut Vec<u8>) -> Result<(), AllocError>
     out.extend_from_slice(b",\"commit\"]")
 }
 
-/// Writes a slot with its value.
+/// Writes a slot with its value as a JSON array. After an error a part may stand in `out`.
 pub(crate) fn put_binding(out: &mut Vec<u8>, slot: &Name, value: &Value) -> Result<(), AllocError>
     ensures text { OnOk result (out.new.items
         ≡ out.old.items ++ compact_text (binding_shown (slot.now, value.now))) }

@@ -27,12 +27,13 @@ pub fn write_show(names: &Roles, session: &Session, out: &mut Vec<u8>) -> Result
     ensures shown { OnOk result (AreShown (show_text names.now session.now.types session.now.state.history)) }
     ensures err { OnErr result (out.new.items ≡ out.old.items) }
 {
+    // a buffer of its own: lack of memory midway leaves `out` as it was
     let mut text = Vec::new(*out.allocator());
     put_state(&mut text, names, session)?;
     out.extend_from_slice(&text)
 }
 
-// Writes the whole.
+// Writes the whole of what is shown as a JSON object. After an error a part may stand in `out`.
 fn put_state(out: &mut Vec<u8>, names: &Roles, session: &Session) -> Result<(), AllocError>
     requires { length names.now ≡ length session.now.types }
     ensures text { OnOk result (out.new.items ≡ out.old.items
@@ -48,7 +49,7 @@ fn put_state(out: &mut Vec<u8>, names: &Roles, session: &Session) -> Result<(), 
     Ok(out.push(b'}')?)
 }
 
-// Writes the surviving steps, each with what it gave or took.
+// Writes the surviving steps as a JSON array, each with what it gave or took. After an error a part may stand in `out`.
 fn put_history(out: &mut Vec<u8>, names: &Roles, session: &Session) -> Result<(), AllocError>
     requires { length names.now ≡ length session.now.types }
     ensures text { OnOk result (out.new.items ≡ out.old.items
@@ -65,7 +66,8 @@ fn put_history(out: &mut Vec<u8>, names: &Roles, session: &Session) -> Result<()
     Ok(out.push(b']')?)
 }
 
-// Writes the queues in which something waits, by sender and then by receiver.
+// Writes the queues in which something waits as a JSON array, by sender and then by receiver. After an error a part may
+// stand in `out`.
 fn put_queues(out: &mut Vec<u8>, names: &Roles, session: &Session) -> Result<(), AllocError>
     requires { length names.now ≡ length session.now.types }
     ensures text { OnOk result (out.new.items ≡ out.old.items
@@ -76,13 +78,15 @@ fn put_queues(out: &mut Vec<u8>, names: &Roles, session: &Session) -> Result<(),
     out.push(b'[')?;
     let n = session.roles();
     let mut later = false;
+    // places of roles are below 8, so they fit
     for p in 0..n {
         later = put_queues_from(out, names, session, Role::new(p as u8), later)?;
     }
     Ok(out.push(b']')?)
 }
 
-// Writes the queues from one role, and tells whether something stands in the array then.
+// Writes the queues from one role in which something waits, by receiver, and tells whether something stands in the
+// array then. After an error a part may stand in `out`.
 fn put_queues_from(
     out: &mut Vec<u8>,
     names: &Roles,
@@ -101,14 +105,15 @@ fn put_queues_from(
 {
     let n = session.roles();
     let mut now = later;
+    // places of roles are below 8, so they fit
     for q in 0..n {
         now = put_queue(out, names, session, from, Role::new(q as u8), now)?;
     }
     Ok(now)
 }
 
-// Writes the queue from one role to another, where something waits in it, and tells whether something stands in the
-// array then.
+// Writes the queue from one role to another as a JSON array, where something waits in it, and tells whether something
+// stands in the array of queues then. After an error a part may stand in `out`.
 fn put_queue(
     out: &mut Vec<u8>,
     names: &Roles,
@@ -136,7 +141,8 @@ fn put_queue(
     Ok(true)
 }
 
-// Writes a queue with this first message and these others.
+// Writes a queue as a JSON array: both names, and the messages, of which these are the first and the others. After an
+// error a part may stand in `out`.
 fn put_messages(
     out: &mut Vec<u8>,
     names: &Roles,
@@ -166,7 +172,7 @@ fn put_messages(
     out.extend_from_slice(b"]]")
 }
 
-// Writes the roles in order.
+// Writes the roles as a JSON array, in order. After an error a part may stand in `out`.
 fn put_roles(out: &mut Vec<u8>, names: &Roles, session: &Session) -> Result<(), AllocError>
     requires { length names.now ≡ length session.now.types }
     ensures text { OnOk result (out.new.items ≡ out.old.items
@@ -175,6 +181,7 @@ fn put_roles(out: &mut Vec<u8>, names: &Roles, session: &Session) -> Result<(), 
 {
     out.push(b'[')?;
     let n = session.roles();
+    // places of roles are below 8, so they fit
     for p in 0..n {
         put_comma(out, p > 0)?;
         put_participant(out, names, session, Role::new(p as u8))?;
@@ -182,7 +189,8 @@ fn put_roles(out: &mut Vec<u8>, names: &Roles, session: &Session) -> Result<(), 
     Ok(out.push(b']')?)
 }
 
-// Writes a role: what it may do next, what it did, its name, and what it keeps.
+// Writes a role as a JSON object: what it may do next, what it did, its name, and what it keeps. After an error a part
+// may stand in `out`.
 fn put_participant(
     out: &mut Vec<u8>,
     names: &Roles,
@@ -208,7 +216,8 @@ fn put_participant(
     Ok(out.push(b'}')?)
 }
 
-// Writes what the role may do next.
+// Writes what the role may do next as a JSON string. Its words need no escapes. After an error a part may stand in
+// `out`.
 fn put_expects(
     out: &mut Vec<u8>,
     names: &Roles,
@@ -227,7 +236,8 @@ fn put_expects(
     Ok(out.push(b'"')?)
 }
 
-// Writes the numbers of the role's surviving steps.
+// Writes the numbers of the role's surviving steps as a JSON array. It walks over the steps of all roles. After an
+// error a part may stand in `out`.
 fn put_past(out: &mut Vec<u8>, session: &Session, role: Role) -> Result<(), AllocError>
     ensures { OnOk result (out.new.items ≡ out.old.items
         ++ compact_text (row (map number_shown (numbers (steps_of role session.now.state.history))))) }
@@ -240,7 +250,8 @@ fn put_past(out: &mut Vec<u8>, session: &Session, role: Role) -> Result<(), Allo
     Ok(out.push(b']')?)
 }
 
-// Writes the number of a step of the role, and tells whether something stands in the array then.
+// Writes the number of the step, if it is one of the role, and tells whether something stands in the array then. After
+// an error a comma may stand in `out` alone.
 fn put_own(out: &mut Vec<u8>, role: Role, step: &Step, later: bool) -> Result<bool, AllocError>
     ensures text { OnOk result (out.new.items ≡ out.old.items ++ joined later (own_number role step.now)) }
     ensures behind { IfOk result (λ now. now ≡ behind later (own_number role step.now)) }
@@ -253,7 +264,8 @@ fn put_own(out: &mut Vec<u8>, role: Role, step: &Step, later: bool) -> Result<bo
     Ok(true)
 }
 
-// Writes the slots of the role, each with its value.
+// Writes the slots of the role as a JSON array, each with its value, in the order in which they were first bound. After
+// an error a part may stand in `out`.
 fn put_store(out: &mut Vec<u8>, session: &Session, role: Role) -> Result<(), AllocError>
     requires { role < length session.now.types }
     ensures text { OnOk result (out.new.items ≡ out.old.items
@@ -264,6 +276,7 @@ fn put_store(out: &mut Vec<u8>, session: &Session, role: Role) -> Result<(), All
     out.push(b'[')?;
     let count = session.slots(role);
     for k in 0..count {
+        // never: so many are bound
         let Some(binding) = session.binding(role, k) else {
             unreachable!()
         };

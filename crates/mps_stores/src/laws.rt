@@ -24,7 +24,7 @@ pub fn idle_steps_may_go()
         AreStores naming (filter (λ other. not (other.key == e.key)) es) stores }
 {}
 
-/// A keyed step may be flagged as chosen, or not any more: the stores stay.
+/// Where the arena marks a step, or removes its mark, the stores stay.
 pub fn marks_leave_stores()
     ensures { (naming : Naming) (es : List KeyedStep) (key : ℕ) (marked : Bool) (stores : List Keys) →
         AreStores naming es stores → AreStores naming (map (with_mark key marked) es) stores }

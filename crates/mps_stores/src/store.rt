@@ -34,7 +34,7 @@ impl Model for Store {
 }
 
 impl Store {
-    /// A store in which no name is bound.
+    /// A store in which no name is bound. It does not allocate.
     pub(crate) fn new(alloc: Global) -> Store
         ensures { result ≡ [] }
     {
@@ -43,14 +43,14 @@ impl Store {
         }
     }
 
-    /// The key to which the name is bound.
+    /// The key to which the name is bound, if it is.
     pub(crate) fn get(&self, name: &Name) -> Option<Key>
         ensures { result ≡ value_in name.now self.now }
     {
         self.keys.get(name).copied()
     }
 
-    /// The names and their keys.
+    /// The names and their keys, in the order in which the names were first bound.
     pub(crate) fn entries(&self) -> Iter<'_, Name, Key>
         ensures rest { result ≡ self.now }
         ensures runs { ShowsInOrder (deref_pair {K = List ℕ} {X = ℕ}) }
@@ -65,14 +65,15 @@ impl Store {
         self.keys.len()
     }
 
-    /// The name that was bound as the k-th, from 0, and its key.
+    /// The name that was first bound as the k-th, from 0, and its key, if so many are bound.
     pub(crate) fn nth(&self, k: usize) -> Option<(&Name, &Key)>
         ensures { option_map (deref_pair {K = List ℕ} {X = ℕ}) result ≡ slice_get self.now k }
     {
         self.keys.get_index(k)
     }
 
-    /// Binds the name, and tells the key to which it was bound.
+    /// Binds the name to the key, and tells the key to which it was bound before, if it was. Only a new name needs
+    /// memory.
     pub(crate) fn bind(&mut self, name: &Name, key: Key) -> Result<Option<Key>, AllocError>
         ensures replaced { IfOk result (λ older. older ≡ value_in name.now self.old) }
         ensures bound { OnOk result (self.new ≡ bound name.now key self.old) }
@@ -85,7 +86,7 @@ impl Store {
         Ok(self.keys.insert(*name, key)?)
     }
 
-    // The place of a known name, where a role keeps few: it is found without its hash.
+    // The place of the name, where it is known and the store has at most 8 names: it is found without its hash.
     fn place_among_few(&self, name: &Name) -> Option<usize>
         ensures { IfSome result (λ place. position (bytes_eq name.now) (keys_of self.now) ≡ Some place) }
     {
@@ -96,7 +97,7 @@ impl Store {
         place_in(known.as_slice(), name)
     }
 
-    // Binds the name of that place, and tells the key to which it was bound.
+    // Binds the name of that place to the key, and tells the key to which it was bound.
     fn rebind(&mut self, place: usize, key: Key) -> Option<Key>
         ensures older { result ≡ slice_get (values_of self.old) place }
         ensures rebound { self.new ≡ set_value_at self.old place key }
@@ -105,7 +106,8 @@ impl Store {
         Some(mem::replace(bound, key))
     }
 
-    /// Undoes the binding of a name. Where the name isn't bound, nothing changes.
+    /// Undoes the binding of a name: it is bound to the older key, in its place, or removed where there is none. Where
+    /// the name isn't bound, nothing changes.
     pub(crate) fn unbind(&mut self, name: &Name, older: Option<Key>)
         ensures { self.new ≡ unbound name.now older self.old }
     {
@@ -116,13 +118,14 @@ impl Store {
                 }
             }
             None => {
+                // the other names keep their order
                 self.keys.shift_remove(name);
             }
         }
     }
 }
 
-// The first place at which the name stands.
+// The first place at which the name stands, if it does.
 fn place_in(names: &[Name], name: &Name) -> Option<usize>
     ensures { result ≡ position (bytes_eq name.now) names.now }
 {

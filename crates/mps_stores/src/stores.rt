@@ -47,7 +47,7 @@ impl Stores {
         Ok(Stores { stores })
     }
 
-    /// The step to which the role's name is bound.
+    /// The key of the step to which the role's name is bound, if it is.
     pub fn get(&self, role: Role, name: &Name) -> Option<Key>
         requires { role < 8 }
         ensures { result ≡ value_in name.now (store_at self.now role) }
@@ -55,7 +55,7 @@ impl Stores {
         self.stores[role.index()].get(name)
     }
 
-    /// The role's names, in the order in which they were first bound, each with its step.
+    /// The role's names, in the order in which they were first bound, each with the key of its step.
     pub fn entries(&self, role: Role) -> Iter<'_, Name, Key>
         requires { role < 8 }
         ensures rest { result ≡ store_at self.now role }
@@ -72,7 +72,7 @@ impl Stores {
         self.stores[role.index()].len()
     }
 
-    /// The role's name that was bound as the k-th, from 0, and its step.
+    /// The role's name that was first bound as the k-th, from 0, and the key of its step, if so many are bound.
     pub fn nth(&self, role: Role, k: usize) -> Option<(&Name, &Key)>
         requires { role < 8 }
         ensures { option_map (deref_pair {K = List ℕ} {X = ℕ}) result
@@ -81,7 +81,7 @@ impl Stores {
         self.stores[role.index()].nth(k)
     }
 
-    /// Binds the role's name to a step, and tells to which one it was bound: what its keyed step keeps as
+    /// Binds the role's name to a step, and tells to which one it was bound: what the new step has to keep as
     /// `before.bound`. A known name keeps its place, and does not allocate.
     #[inline(always)]
     pub fn bind(&mut self, role: Role, name: &Name, key: Key) -> Result<Option<Key>, AllocError>

@@ -16,7 +16,7 @@ use crate::table::Table;
 use mps_local::{Local, LocalFault, first_fault};
 use std::alloc::{AllocError, Global};
 
-/// The table of a local type, or the type's first fault. The type may be of any size.
+/// The table of a local type; or the type's first fault, or `Memory` where it has none. The type may be of any size.
 pub fn compile(alloc: Global, tree: &Local) -> Result<Table, LocalFault>
     ensures table { IfOk result (λ table. StandsFor table table.first (plain tree.now)) }
     ensures rows { IfOk result
@@ -42,8 +42,8 @@ pub fn compile(alloc: Global, tree: &Local) -> Result<Table, LocalFault>
     }
 }
 
-// The table of a type of at most 256 nodes, whose variables stand in their `rec`s, and in which no
-// `rec` comes to its variable without an act.
+// Makes the table of a type of at most 256 nodes, whose variables stand in their `rec`s, and in which no `rec` comes to
+// its variable without an act.
 fn table_of(alloc: Global, tree: &Local) -> Result<Table, AllocError>
     requires few { node_count (plain tree.now) ≤ 256 }
     requires closed { is_closed [] (plain tree.now) ≡ true }

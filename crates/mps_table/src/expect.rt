@@ -26,14 +26,14 @@ impl Node {
         Node(index)
     }
 
-    /// The number of its place, of which `Node::new` makes it again.
+    /// The place of the node as a number, of which `Node::new` makes the node again.
     pub fn number(self) -> u16
         ensures { result ≡ self }
     {
         self.0
     }
 
-    /// Its place in the table.
+    /// The place of the node in its table.
     pub(crate) fn index(self) -> usize
         ensures place { result ≡ self }
         ensures small { result < 2 ^ 16 }

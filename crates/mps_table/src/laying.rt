@@ -27,7 +27,8 @@ pub(crate) struct Draft {
     pub(crate) targets: Vec<Node>,
 }
 
-// The node of a variable.
+// The node of a variable, which is that of the nearest `rec` of it. One without a `rec` would get node 0; no closed
+// type has such a variable.
 fn node_of(name: &VarName, bound: &Bound<'_>) -> Node
     ensures { result ≡ places_of bound.now name.now }
 {
@@ -43,7 +44,8 @@ fn node_of(name: &VarName, bound: &Bound<'_>) -> Node
     }
 }
 
-// The node of a type whose rows begin at that place.
+// The node of a type whose rows begin at the place `at`. A variable has no row, and the node of its `rec`; a `rec` has
+// no row of its own either, and the node of its body.
 fn start(tree: &Local, bound: &Bound<'_>, at: usize) -> Node
     requires few { at ≤ 256 }
     ensures { result ≡ start (places_of bound.now) at (plain tree.now) }
@@ -51,11 +53,12 @@ fn start(tree: &Local, bound: &Bound<'_>, at: usize) -> Node
     match tree {
         Local::Var(name) => node_of(name, bound),
         Local::Rec(_, body) => start(body, bound, at),
+        // at most 256, so it fits
         _ => Node::new(at as u16),
     }
 }
 
-// How many rows a type has.
+// How many rows a type has: one for each action and each end.
 #[cycle(size)]
 fn size(tree: &Local) -> usize
     requires few { size (plain tree.now) ≤ 256 }
@@ -71,7 +74,7 @@ fn size(tree: &Local) -> usize
     }
 }
 
-// How many the branches have.
+// How many rows the types after the labels have together.
 #[cycle(size)]
 fn branch_size(branches: &Branches) -> usize
     requires few { branch_size (plain_branches branches.now) ≤ 256 }
@@ -83,7 +86,7 @@ fn branch_size(branches: &Branches) -> usize
     }
 }
 
-/// A closed type laid out, and its node.
+/// Lays a closed type out, its first row at place 0, and says which node the type has.
 pub(crate) fn laid_out(alloc: Global, tree: &Local) -> Result<(Draft, Node), AllocError>
     requires rows { size (plain tree.now) ≤ 256 }
     requires labels { length (all_labels (plain tree.now)) ≤ 256 }
@@ -96,7 +99,7 @@ pub(crate) fn laid_out(alloc: Global, tree: &Local) -> Result<(Draft, Node), All
 }
 
 impl Draft {
-    // With nothing in it.
+    // A draft that has no rows and no labels.
     fn new(alloc: Global) -> Draft
         ensures rows { result.rows.items ≡ [] }
         ensures labels { result.labels.items ≡ [] }
@@ -109,7 +112,8 @@ impl Draft {
         }
     }
 
-    // Lays a type out, in which the variables that are bound outside have these nodes.
+    // Adds the rows and the labels of a type, in which the variables that are bound outside have the nodes of `bound`.
+    // After an error some of them may be there.
     #[cycle(lay)]
     fn lay(&mut self, tree: &Local, bound: &Bound<'_>) -> Result<(), AllocError>
         requires rows { row_count self.old + size (plain tree.now) ≤ 256 }
@@ -120,10 +124,12 @@ impl Draft {
             Local::End => self.push_row(TableRow::End),
             Local::Var(_) => Ok(()),
             Local::Rec(name, body) => {
+                // the variable leads to where the body begins, whose rows come next
                 let node = start(body, &*bound, self.rows.len());
                 self.lay(body, &Bound::Inside(name.as_bytes(), node, &*bound))
             }
             Local::Send { peer, sort, next } => {
+                // what follows begins right after this row, unless it is a variable
                 let node = start(next, &*bound, self.rows.len() + 1);
                 self.push_row(TableRow::Send {
                     peer: *peer,
@@ -162,7 +168,7 @@ impl Draft {
         }
     }
 
-    // Lays the types after the labels out.
+    // Adds the rows and the labels of the types that follow the labels, branch by branch.
     #[cycle(lay)]
     fn lay_branches(&mut self, branches: &Branches, bound: &Bound<'_>) -> Result<(), AllocError>
         requires rows { row_count self.old + branch_size (plain_branches branches.now) ≤ 256 }
@@ -180,8 +186,8 @@ impl Draft {
         }
     }
 
-    // Adds the labels of the choice whose row comes next, and says where the first stands and how
-    // many there are.
+    // Adds the labels of the choice whose row comes next, each with the node after it, and says where the first stands
+    // and how many they are. Both numbers are at most 256.
     fn lay_labels(
         &mut self,
         branches: &Branches,
@@ -202,7 +208,7 @@ impl Draft {
         Ok((first as u16, count as u16))
     }
 
-    // Adds the labels of branches whose rows begin at that place, with their nodes.
+    // Adds the labels of branches whose rows begin at the place `at`, each with the node after it.
     fn push_labels(
         &mut self,
         branches: &Branches,
@@ -226,14 +232,14 @@ impl Draft {
         }
     }
 
-    // Adds a row.
+    // Adds a row after the others.
     fn push_row(&mut self, row: TableRow) -> Result<(), AllocError>
         ensures { OnOk result (Adds self.old self.new (row ∷ []) [] []) }
     {
         Ok(self.rows.push(row)?)
     }
 
-    // Adds a label with the node after it.
+    // Adds a label after the others, and at the same place of its own list the node that follows the label.
     fn push_label(&mut self, label: Name, node: Node) -> Result<(), AllocError>
         ensures { OnOk result (Adds self.old self.new [] (label ∷ []) (node ∷ [])) }
     {

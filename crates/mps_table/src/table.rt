@@ -4,7 +4,7 @@ ghost use Rattle.std.specs.Prelude.{option_and_then};
 ghost use Rattle.mps_local.specs.Local.{LocalType};
 ghost use Rattle.mps_local.specs.Unfolding.{unfolded};
 ghost use Rattle.mps_local.specs.Actions.{Begins, type_left};
-ghost use Rattle.mps_table.specs.Graph.{IsNode, HasNext, IsFollowed, shown, next_of};
+ghost use Rattle.mps_table.specs.Graph.{IsNode, HasNext, shown, next_of};
 ghost use Rattle.mps_table.specs.Private.Graph.{IsWithin, LeadsWithin};
 ghost use Rattle.mps_table.specs.Standing.{StandsFor};
 ghost use Rattle.mps_table.specs.Expects.{head_of, Allows};
@@ -49,7 +49,7 @@ impl Table {
         self.first
     }
 
-    /// What a role may do first at a node.
+    /// What a role may do first at a node of this table.
     pub fn expect(&self, node: Node) -> Expect<'_>
         requires node { IsNode self.now node }
         ensures row { option_map (shown self.now) (slice_get self.now.rows node)
@@ -62,8 +62,8 @@ impl Table {
         self.shown(self.row(node))
     }
 
-    /// The node of what comes then: after a value with no choice, after a choice with the place of
-    /// the label that was chosen.
+    /// The node that follows one of this table: after a value with no choice, after a choice with the place of the
+    /// label that was chosen.
     pub fn after(&self, node: Node, choice: Option<usize>) -> Node
         requires action { HasNext self.now node choice }
         ensures node { IsNode self.now result }
@@ -72,10 +72,16 @@ impl Table {
         ensures follows { (t u : LocalType) → StandsFor self.now node t
             → type_left t choice ≡ Some u → StandsFor self.now result u }
     {
-        self.next(self.row(node), choice)
+        match (choice, self.row(node)) {
+            (None, TableRow::Send { next, .. } | TableRow::Recv { next, .. }) => next,
+            (Some(place), TableRow::Select { first, .. } | TableRow::Branch { first, .. }) => {
+                self.targets[usize::from(first) + place]
+            }
+            _ => unreachable!(),
+        }
     }
 
-    // What stands at a node.
+    // The row of a node.
     fn row(&self, node: Node) -> TableRow
         requires { IsNode self.now node }
         ensures row { slice_get self.now.rows node ≡ Some result }
@@ -86,7 +92,7 @@ impl Table {
         self.rows[node.index()]
     }
 
-    // What a row shows.
+    // What a row says that the role may do first.
     fn shown(&self, row: TableRow) -> Expect<'_>
         requires within { IsWithin (length self.now.labels) row }
         ensures { head_of result ≡ shown self.now row }
@@ -106,29 +112,7 @@ impl Table {
         }
     }
 
-    // The node that follows a row.
-    fn next(&self, row: TableRow, choice: Option<usize>) -> Node
-        requires within { IsWithin (length self.now.targets) row }
-        requires leads { LeadsWithin (length self.now.rows) row }
-        requires followed { IsFollowed choice row }
-        ensures next { next_of self.now choice row ≡ Some result }
-        ensures node { IsNode self.now result }
-    {
-        match choice {
-            None => match row {
-                TableRow::Send { next, .. } | TableRow::Recv { next, .. } => next,
-                _ => unreachable!(),
-            },
-            Some(place) => match row {
-                TableRow::Select { first, .. } | TableRow::Branch { first, .. } => {
-                    self.targets[usize::from(first) + place]
-                }
-                _ => unreachable!(),
-            },
-        }
-    }
-
-    // The labels from that place on, so many.
+    // The `count` labels from the place `first` on.
     fn labels_at(&self, first: u16, count: u16) -> &[Name]
         requires { first + count ≤ length self.now.labels }
         ensures { result.now ≡ slice_range self.now.labels first (first + count) }

@@ -1,4 +1,5 @@
-//! Calls that make something, or look at it.
+//! mps_text, mps_base, mps_local, mps_table, mps_session, mps_links: calls that make something, or look at it, are
+//! answered as with ample memory, or report that memory ran out and change nothing.
 ghost use Rattle.std.specs.Prelude.{◌≡◌, ◌<◌, ◌∷◌, [], None, IfOk, IfSome, length, IsSome};
 ghost use Rattle.mps_arena.specs.KeyedSteps.{steps};
 ghost use Rattle.mps_global.specs.Global.{plain as global_type};

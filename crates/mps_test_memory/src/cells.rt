@@ -1,4 +1,4 @@
-//! Cells and their passes.
+//! mps_cell: cells and their passes answer as with ample memory, or report that memory ran out and change nothing.
 ghost use Rattle.std.specs.Prelude.{◌≡◌, false, IfSome, All};
 
 use crate::outcomes::{Came, Outcome, Until, answered, came_to, refused};

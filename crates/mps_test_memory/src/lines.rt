@@ -1,4 +1,5 @@
-//! Calls that read and write lines.
+//! mps_line, mps_show, mps_wire, mps_hub: lines are read and written, and conversations held, as with ample memory, or
+//! it is reported that memory ran out.
 ghost use Rattle.std.specs.Prelude.{◌≡◌, false, length, IfSome};
 ghost use Rattle.mps_dev.specs.Pieces.{calls_of};
 
@@ -16,6 +17,7 @@ use mps_wire::{Ending, converse};
 use std::alloc::Global;
 use std::sync::Wait;
 
+// A command, and an answer, with a text that needs memory of its own.
 const SAY: &[u8] = b"send c \"a text that is longer than what a value holds in place\"";
 
 pub const TOLD: &[u8] = b"done 2 \"a text that is longer than what a value holds in place\"";

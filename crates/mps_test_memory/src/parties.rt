@@ -1,4 +1,5 @@
-//! Sessions, rooms and cells, as those who answer the commands of any role.
+//! mps_session, mps_room, mps_cell: a command of any role is answered as with ample memory, or it is reported that
+//! memory ran out, and nothing has changed.
 ghost use Rattle.std.specs.Prelude.{◌≡◌, ◌<◌, length, IfSome};
 ghost use Rattle.mps_machine.specs.Machine.{initial};
 
@@ -380,6 +381,7 @@ pub fn room_asked(alloc: Global, row: &Row<'_>, until: Until) -> Option<Outcome>
     compared(alloc, row, until, &mut first, &mut second)
 }
 
+// Whether the room gives the fourth entry, which is c's receipt of the text.
 fn entry_found(room: &Room) -> Came {
     match room.entry(3) {
         Ok(entry) => came_to(entry.is_some()),

@@ -1,4 +1,4 @@
-//! Three commands of one role to a new room, of which the first two are refused whatever memory there is.
+//! mps_room: three commands of one role to a new room, of which the first two are refused whatever memory there is.
 
 use crate::outcomes::{Outcome, Until, answered, refused};
 use crate::parties::{Party, Roomed, ran_out};

@@ -1,4 +1,4 @@
-//! A machine in memory, for the tests: its files, and what a program prints on it.
+//! What the tests of this crate share: a machine in memory, its files, and what a program prints on it.
 ghost use Rattle.std.specs.Io.{ReadsAtMost, WritesAtMost};
 ghost use Rattle.std.specs.Prelude.{◌≤◌, length, IfOk};
 

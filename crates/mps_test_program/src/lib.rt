@@ -1,4 +1,4 @@
-//! Tests of the program, over what its crates make public.
+//! Tests of mps_words and mps_program, over what these make public.
 #![tactic(auto)]
 
 #[cfg(test)]

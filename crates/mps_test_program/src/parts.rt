@@ -1,4 +1,4 @@
-//! The program's words, files, protocols, scripts and faults.
+//! mps_words, mps_program: words become orders, texts become sessions, and each fault has its line and its status.
 ghost use Rattle.std.specs.Prelude.{◌≡◌, length, IfOk};
 ghost use Rattle.mps_machine.specs.Machine.{initial};
 
@@ -17,8 +17,10 @@ use std::alloc::{AllocError, Global};
 use std::process::Abort;
 use std::test::Fail;
 
+// a gives b an int, and b gives c one.
 const RELAY: &str = "roles a b c ; a -> b : int . b -> c : int . end";
 
+// a gives b an int, and c gives d one.
 const PAIRS: &str = "roles a b c d ; a -> b : int . c -> d : int . end";
 
 // The text in one piece.
@@ -60,6 +62,7 @@ pub(crate) fn answers(alloc: Global, protocol: &str, script: &str) -> Result<Vec
 // A protocol, a script, and the answers.
 struct Script(&'static str, &'static str, &'static str);
 
+// Scripts of accepted lines, of refusals, and of two pairs.
 const SCRIPTS: &[Script] = &[
     Script(
         RELAY,
@@ -74,12 +77,14 @@ const SCRIPTS: &[Script] = &[
     Script(PAIRS, "a send b 1\nc send d 2\n", "done 1\ndone 2\n"),
 ];
 
+// The greatest int, 2^63 - 1, and one more; and a script without a line.
 const NUMBERS: &[Script] = &[
     Script(RELAY, "a send b 9223372036854775807\n", "done 1\n"),
     Script(RELAY, "a send b 9223372036854775808\n", "refused line\n"),
     Script(RELAY, "", ""),
 ];
 
+// Each script is answered so.
 fn plays(rt: &impl Abort, alloc: Global, scripts: &[Script]) -> Result<(), Fail> {
     for Script(protocol, script, want) in scripts {
         let found = answers(alloc, protocol, script)?;
@@ -88,11 +93,13 @@ fn plays(rt: &impl Abort, alloc: Global, scripts: &[Script]) -> Result<(), Fail>
     Ok(())
 }
 
+// A session of `load_opening` answers a script by `replay_session`, as `mps_tool run` does.
 #[test]
-fn relays(rt: HostRuntime) -> Result<(), Fail> {
+fn answers_scripts(rt: HostRuntime) -> Result<(), Fail> {
     plays(&rt, rt.alloc(), SCRIPTS)
 }
 
+// `replay_session` reads an int up to the greatest, and no greater one.
 #[test]
 fn reads_numbers_to_the_last(rt: HostRuntime) -> Result<(), Fail> {
     plays(&rt, rt.alloc(), NUMBERS)
@@ -106,10 +113,11 @@ fn ordered(alloc: Global, words: &[&str]) -> Result<String, AllocError> {
     }
 }
 
-// Words, and what they are read as begins with.
+// Words, and what they are read as begins with: an order as it is shown (`Debug`), or the status 2 of a fault of use.
 struct Words(&'static [&'static str], &'static str);
 
 const ORDERS: &[Words] = &[
+    // tasks without a network, each with its files
     Words(
         &["mps_tool", "run", "a.protocol", "a.script"],
         "Offline { task: Run { file: \"a.protocol\", script: \"a.script\", strict: false }, verbose: false }",
@@ -126,6 +134,7 @@ const ORDERS: &[Words] = &[
         &["mps_tool", "check", "a.protocol"],
         "Offline { task: Check { file: \"a.protocol\" }, verbose: false }",
     ),
+    // a server: which connections it accepts, and where it records
     Words(
         &[
             "mps_tool",
@@ -160,7 +169,7 @@ const ORDERS: &[Words] = &[
         ],
         "Serve { file: \"a.protocol\", port: 0, sessions: 2, first: 1, connections: None, idle: None, ",
     ),
-    // which connections a server accepts is said, unless it has a journal
+    // which connections it accepts is said in one way, unless it has a journal
     Words(
         &[
             "mps_tool",
@@ -183,6 +192,7 @@ const ORDERS: &[Words] = &[
         ],
         "2",
     ),
+    // `-v` may stand anywhere, and more than once
     Words(
         &["mps_tool", "-v", "check", "a.protocol"],
         "Offline { task: Check { file: \"a.protocol\" }, verbose: true }",
@@ -203,6 +213,7 @@ const ORDERS: &[Words] = &[
         ],
         "Offline { task: Check { file: \"a.protocol\" }, verbose: true }",
     ),
+    // the greatest number of a first session, 2^63
     Words(
         &[
             "mps_tool",
@@ -215,11 +226,13 @@ const ORDERS: &[Words] = &[
         ],
         "Serve { file: \"a.protocol\", port: 0, sessions: 2, first: 9223372036854775808, ",
     ),
+    // use and version
     Words(&["mps_tool", "--help"], "Offline { task: Help { text: "),
     Words(
         &["mps_tool", "--version"],
         "Offline { task: Help { text: \"mps_tool 0.2.0\" }, verbose: false }",
     ),
+    // words too few, too many, or unknown
     Words(&["mps_tool"], "2"),
     Words(&["mps_tool", "fly"], "2"),
     Words(&["mps_tool", "check"], "2"),
@@ -241,6 +254,7 @@ const ORDERS: &[Words] = &[
     ),
 ];
 
+// `order` of mps_words reads each command with its options, and refuses words that are none.
 #[test]
 fn takes_its_words(rt: HostRuntime) -> Result<(), Fail> {
     for Words(words, want) in ORDERS {
@@ -257,6 +271,7 @@ fn tells(alloc: Global, fault: &ToolFault<'_>, line: &str, code: u8) -> Result<b
     Ok(told.as_slice() == line.as_bytes() && shown.as_str() == line && status(fault) == code)
 }
 
+// `fault_line` and `Display` tell these faults as FORMATS says, each with its `status`. `a b` and 12 stand for any.
 #[test]
 fn tells_faults(rt: HostRuntime) -> Result<(), Fail> {
     let faults = [
@@ -283,14 +298,16 @@ fn tells_faults(rt: HostRuntime) -> Result<(), Fail> {
     Ok(())
 }
 
+// The line of a role that has no local type names the role and the choice, 12, which stands for any. Its status is 3.
 #[test]
-fn tells_projections(rt: HostRuntime) -> Result<(), Fail> {
+fn tells_missing_projections(rt: HostRuntime) -> Result<(), Fail> {
     let role = Name::read(b"c").ok_or("a name")?;
     let fault = ToolFault::Projection { role, choice: 12 };
     assert!(rt; tells(rt.alloc(), &fault, "refused projection c 12", 3)?);
     Ok(())
 }
 
+// Each kind of fault that a text shows, at a byte, of which 7 stands for any; TooLong is told at 65536.
 const TEXTS: &[(usize, TextKind, &str)] = &[
     (65536, TextKind::TooLong, "refused text toolong 65536"),
     (7, TextKind::TooLong, "refused text toolong 7"),
@@ -301,8 +318,9 @@ const TEXTS: &[(usize, TextKind, &str)] = &[
     (7, TextKind::Trailing, "refused text trailing 7"),
 ];
 
+// The line of a text's fault has its kind in small letters, and the byte. Its status is 3.
 #[test]
-fn tells_texts(rt: HostRuntime) -> Result<(), Fail> {
+fn tells_faults_of_texts(rt: HostRuntime) -> Result<(), Fail> {
     for (at, kind, line) in TEXTS {
         let fault = ToolFault::Text {
             at: *at,
@@ -313,6 +331,7 @@ fn tells_texts(rt: HostRuntime) -> Result<(), Fail> {
     Ok(())
 }
 
+// Each fault of a protocol, and its line.
 const PROTOCOLS: &[(GlobalFault, &str)] = &[
     (GlobalFault::RoleCount, "refused protocol rolecount"),
     (GlobalFault::DoubleRole, "refused protocol doublerole"),
@@ -331,8 +350,9 @@ const PROTOCOLS: &[(GlobalFault, &str)] = &[
     (GlobalFault::Unguarded, "refused protocol unguarded"),
 ];
 
+// The line of a protocol's fault has its name in small letters. Its status is 3.
 #[test]
-fn tells_protocols(rt: HostRuntime) -> Result<(), Fail> {
+fn tells_faults_of_protocols(rt: HostRuntime) -> Result<(), Fail> {
     for (fault, line) in PROTOCOLS {
         let fault = ToolFault::Protocol { fault: *fault };
         assert!(rt; tells(rt.alloc(), &fault, line, 3)?, "{line}");
@@ -386,6 +406,7 @@ fn given(alloc: Global, what: Had, protocol: &str) -> Result<Vec<u8>, Fail> {
     }
 }
 
+// Of each protocol is had what its row says.
 fn gives(rt: &impl Abort, alloc: Global, what: Had, rows: &[(&str, &str)]) -> Result<(), Fail> {
     for (protocol, want) in rows {
         let found = given(alloc, what, protocol)?;
@@ -394,6 +415,7 @@ fn gives(rt: &impl Abort, alloc: Global, what: Had, rows: &[(&str, &str)]) -> Re
     Ok(())
 }
 
+// Protocols, and the line of their fault: the text's has its byte, that of a projection the role and the choice.
 const REFUSED: &[(&str, &str)] = &[
     ("roles a b ; a -> b : int end", "refused text unexpected 25"),
     ("roles a b ; end end", "refused text trailing 16"),
@@ -415,11 +437,13 @@ const REFUSED: &[(&str, &str)] = &[
     ("roles a a ; end", "refused protocol doublerole"),
 ];
 
+// `load_opening` gives no session of a protocol with a fault, and tells the first fault.
 #[test]
 fn refuses_protocols(rt: HostRuntime) -> Result<(), Fail> {
     gives(&rt, rt.alloc(), Had::Session, REFUSED)
 }
 
+// Protocols in two pieces, and how many names and roles they have, or the line of their fault.
 const LOADED: &[(&str, &str)] = &[
     (RELAY, "3 3"),
     (
@@ -434,6 +458,7 @@ const LOADED: &[(&str, &str)] = &[
     ("roles a a ; end", "refused protocol doublerole"),
 ];
 
+// `load_opening` reads a protocol in pieces too, and `into_session` gives as many names as the session has roles.
 #[test]
 fn loads_sessions(rt: HostRuntime) -> Result<(), Fail> {
     gives(&rt, rt.alloc(), Had::Loaded, LOADED)
@@ -450,6 +475,8 @@ const LONG: &[(usize, &str)] = &[
     (70_000, "refused text toolong 65536"),
 ];
 
+// `load_opening` reads a text of 65,536 bytes whole, and of a longer one a byte more, which tells that it is too long.
+// Blanks lack a token at their end.
 #[test]
 fn reads_no_more_than_a_text(rt: HostRuntime) -> Result<(), Fail> {
     for (count, line) in LONG {
@@ -460,6 +487,7 @@ fn reads_no_more_than_a_text(rt: HostRuntime) -> Result<(), Fail> {
     Ok(())
 }
 
+// Protocols, and a line for each role: its name and its local type.
 const TYPES: &[(&str, &str)] = &[
     (
         "roles a b c ; a -> b : int . b -> c : int . c -> a { ok : end , no : end }\n",
@@ -485,6 +513,7 @@ const TYPES: &[(&str, &str)] = &[
     ),
 ];
 
+// `lines_of` gives a line for each role, with its projection, as `mps_tool check` prints it.
 #[test]
 fn shows_types(rt: HostRuntime) -> Result<(), Fail> {
     gives(&rt, rt.alloc(), Had::Lines, TYPES)
@@ -495,7 +524,9 @@ const SEVENTEEN: &str = "roles a b ; a -> b { l1 : end , l2 : end , l3 : end , l
     l5 : end , l6 : end , l7 : end , l8 : end , l9 : end , l10 : end , l11 : end , l12 : end , \
     l13 : end , l14 : end , l15 : end , l16 : end , l17 : end }";
 
+// Protocols without types, and the line of their fault. Choices are counted in preorder, from 0.
 const WITHOUT_TYPES: &[(&str, &str)] = &[
+    // the branches of that choice differ for c
     (
         "roles a b c ; a -> b { l : a -> c : int . end , r : end }",
         "refused projection c 0",
@@ -518,6 +549,7 @@ const WITHOUT_TYPES: &[(&str, &str)] = &[
         "roles a b c ; a -> b { l : b -> a { p : end , q : a -> c : int . end } , r : end }",
         "refused projection c 1",
     ),
+    // the protocol has a fault
     ("roles a b ; rec X . X", "refused protocol unguarded"),
     (
         "roles a b ; a -> z : int . end",
@@ -546,17 +578,20 @@ const WITHOUT_TYPES: &[(&str, &str)] = &[
         "refused protocol unknownrole",
     ),
     ("roles a a ; end", "refused protocol doublerole"),
+    // the text has one: `end` is no label
     (
         "roles a b ; a -> b { end : end }",
         "refused text unexpected 21",
     ),
 ];
 
+// `load_opening` tells the first fault of a protocol that has no types to show.
 #[test]
-fn refuses_to_show(rt: HostRuntime) -> Result<(), Fail> {
+fn refuses_to_show_types(rt: HostRuntime) -> Result<(), Fail> {
     gives(&rt, rt.alloc(), Had::Lines, WITHOUT_TYPES)
 }
 
+// `read_text` reads a text to its end, whatever pieces it comes in.
 #[test]
 fn reads_texts(rt: HostRuntime) -> Result<(), Fail> {
     let mut reader = Pieces::new(halves(rt.alloc(), "roles a b ; end")?, None);
@@ -572,6 +607,7 @@ fn is_failed_read<T: Drop>(had: Result<T, ToolFault<'_>>) -> bool {
     matches!(had, Err(ToolFault::Read { .. }))
 }
 
+// `read_text` and `load_opening` tell a failed read, here the second, also where the first gave a whole protocol.
 #[test]
 fn tells_reads_that_fail(rt: HostRuntime) -> Result<(), Fail> {
     let mut reader = Pieces::new(whole(rt.alloc(), "roles a")?, Some(2));
@@ -592,13 +628,16 @@ struct Scripts(
     u8,
 );
 
+// a sends and then c, and the other way round.
 const AB: &str = "a send b 1\nc send d 2";
 
 const CD: &str = "c send d 2\na send b 1";
 
 const COMPARED: &[Scripts] = &[
+    // two sends of two pairs: in another order, or with another value
     Scripts(AB, CD, None, None, "same\n", 0),
     Scripts(AB, "c send d 2\na send b 3", None, None, "different\n", 1),
+    // the order of marks counts within a role, not across roles
     Scripts(
         "a mark m\nc mark m",
         "c mark m\na mark m",
@@ -624,8 +663,10 @@ const COMPARED: &[Scripts] = &[
         "same\n",
         0,
     ),
+    // an unreadable line does nothing; all steps against none
     Scripts("", "what is this", None, None, "same\n", 0),
     Scripts(AB, "", None, None, "different\n", 1),
+    // the first read of either script fails
     Scripts(AB, CD, Some(1), None, "refused read", 4),
     Scripts(AB, CD, None, Some(1), "refused read", 4),
 ];
@@ -667,6 +708,8 @@ fn compared(alloc: Global, scripts: &Scripts) -> Result<(Vec<u8>, u8), Fail> {
     }
 }
 
+// `verdict_of` says `same`, with status 0, where each role did the same in both scripts, else `different`, with 1.
+// Where a run breaks off, that is a fault.
 #[test]
 fn compares_scripts(rt: HostRuntime) -> Result<(), Fail> {
     for scripts in COMPARED {
@@ -685,6 +728,7 @@ fn names_no_file(alloc: Global, fault: Option<ToolFault<'_>>) -> Result<bool, Al
     }
 }
 
+// `open_file` and `check_file` name a file that isn't there, on the machine of the test itself. The status is 2.
 #[test]
 fn names_files_that_do_not_open(rt: HostRuntime) -> Result<(), Fail> {
     let found = open_file(&rt, "no such file").err();
@@ -694,6 +738,7 @@ fn names_files_that_do_not_open(rt: HostRuntime) -> Result<(), Fail> {
     Ok(())
 }
 
+// `run_file` and `compare_files` look for the protocol first: that file is named, not the scripts.
 #[test]
 fn runs_no_file_that_does_not_open(rt: HostRuntime) -> Result<(), Fail> {
     let found = run_file(&rt, "no such file", "no such script", true, false).err();
@@ -707,13 +752,16 @@ fn runs_no_file_that_does_not_open(rt: HostRuntime) -> Result<(), Fail> {
 // empty for none.
 struct Written(&'static str, usize, &'static str, &'static str);
 
+// The lines of the relay's roles.
 const LINES: &str =
     "a : send b int . end\nb : recv a int . send c int . end\nc : recv b int . end\n";
 
 const WRITTEN: &[Written] = &[
+    // room for more than all, for all, and for 8 bytes
     Written(RELAY, 1000, LINES, ""),
     Written(RELAY, LINES.len(), LINES, ""),
     Written(RELAY, 8, "a : send", "refused write"),
+    // nothing is written of a protocol with a fault
     Written(
         "roles a b ; rec X . a -> b : int . rec X . end",
         1000,
@@ -740,6 +788,7 @@ fn write_to(
     Ok((Vec::from_slice(alloc, writer.bytes())?, line))
 }
 
+// `write_types` writes a line for each role once all is read and checked, or tells why not.
 #[test]
 fn writes_types(rt: HostRuntime) -> Result<(), Fail> {
     for Written(protocol, room, lines, fault) in WRITTEN {
@@ -751,6 +800,7 @@ fn writes_types(rt: HostRuntime) -> Result<(), Fail> {
     Ok(())
 }
 
+// `write_types` writes nothing where the second read fails, though the first gave a whole protocol.
 #[test]
 fn writes_nothing_after_a_failed_read(rt: HostRuntime) -> Result<(), Fail> {
     let pieces = whole(rt.alloc(), RELAY)?;

@@ -1,4 +1,4 @@
-//! Steps that are taken back, and what is told of them.
+//! mps_program, mps_wire: undos, rollbacks, returns, news and shows in a script are answered as docs/FORMATS.md says.
 use crate::parts::answers;
 use std::alloc::{AllocError, Global};
 use std::process::Abort;
@@ -18,6 +18,7 @@ pub(crate) const PAIRS: &str = "roles a b c d ; a -> b : int . c -> d : int . en
 pub(crate) const LOOP: &str = "roles a b ; rec X . a -> b : int . X";
 
 const UNDOS: &[Row] = &[
+    // a receipt is undone before its send
     Row(
         RELAY,
         &[
@@ -28,6 +29,7 @@ const UNDOS: &[Row] = &[
             ("a undo 1", "undone 1"),
         ],
     ),
+    // an undone receipt: its message waits in front again
     Row(
         LOOP,
         &[
@@ -38,6 +40,7 @@ const UNDOS: &[Row] = &[
             ("b recv a x", "done 4 1"),
         ],
     ),
+    // an undone send: its message waits no more
     Row(
         LOOP,
         &[
@@ -49,6 +52,7 @@ const UNDOS: &[Row] = &[
             ("b recv a x", "done 4 9"),
         ],
     ),
+    // the second receipt is undone, and takes the same message again
     Row(
         LOOP,
         &[
@@ -60,6 +64,7 @@ const UNDOS: &[Row] = &[
             ("b recv a x", "done 5 2"),
         ],
     ),
+    // the least step that depends on the send is named: the next send, or the receipt
     Row(
         LOOP,
         &[
@@ -78,6 +83,7 @@ const UNDOS: &[Row] = &[
             ("a undo 1", "refused needed 2"),
         ],
     ),
+    // a number is not given out again
     Row(
         LOOP,
         &[
@@ -87,6 +93,7 @@ const UNDOS: &[Row] = &[
             ("a undo 1", "refused nostep"),
         ],
     ),
+    // steps and undos that are refused, and change nothing
     Row(
         RELAY,
         &[
@@ -104,6 +111,7 @@ const UNDOS: &[Row] = &[
 ];
 
 const ROLLBACKS: &[Row] = &[
+    // from the first step on: all
     Row(
         RELAY,
         &[
@@ -114,6 +122,7 @@ const ROLLBACKS: &[Row] = &[
             ("a rollback 1", "undone 4 3 2 1"),
         ],
     ),
+    // from b's receipt on: the 5 waits again
     Row(
         RELAY,
         &[
@@ -127,6 +136,7 @@ const ROLLBACKS: &[Row] = &[
             ("b recv a x", "done 5 5"),
         ],
     ),
+    // c's send does not depend on a's
     Row(
         PAIRS,
         &[
@@ -136,6 +146,7 @@ const ROLLBACKS: &[Row] = &[
             ("d recv c x", "done 3 2"),
         ],
     ),
+    // returns to a mark, which stays until it is undone
     Row(
         LOOP,
         &[
@@ -154,6 +165,7 @@ const ROLLBACKS: &[Row] = &[
 const TALK: &str = "roles a b ; a -> b : text . b -> a : bool . a -> b { go : end , stop : end }";
 
 const QUESTIONS: &[Row] = &[
+    // entry 5 took back steps 2 and 3 of b, and 4 of c; a's own rollback is no news to a
     Row(
         RELAY,
         &[
@@ -168,6 +180,7 @@ const QUESTIONS: &[Row] = &[
             ("c news 9", "news 5"),
         ],
     ),
+    // the session before and after a receipt; a zero or a space too many makes a question unreadable
     Row(
         RELAY,
         &[
@@ -185,6 +198,7 @@ const QUESTIONS: &[Row] = &[
             ("a show ", "refused line"),
         ],
     ),
+    // a text, a bool, a mark and a label, as they are shown; b hears that its pick, step 7, is gone
     Row(
         TALK,
         &[
@@ -238,16 +252,19 @@ fn run_rows(rt: &impl Abort, alloc: Global, rows: &[Row]) -> Result<(), Fail> {
     Ok(())
 }
 
+// `undo` takes a role's own step back on which no other depends, and is else refused with the reason.
 #[test]
 fn takes_single_steps_back(rt: HostRuntime) -> Result<(), Fail> {
     run_rows(&rt, rt.alloc(), UNDOS)
 }
 
+// `news` tells a role which of its steps others took back, and `show` shows the session, its JSON written out by hand.
 #[test]
 fn tells_news_and_shows_sessions(rt: HostRuntime) -> Result<(), Fail> {
     run_rows(&rt, rt.alloc(), QUESTIONS)
 }
 
+// `rollback` and `back` take a step back with all that depend on it, newest first, and nothing else.
 #[test]
 fn takes_steps_back_with_what_depends_on_them(rt: HostRuntime) -> Result<(), Fail> {
     run_rows(&rt, rt.alloc(), ROLLBACKS)

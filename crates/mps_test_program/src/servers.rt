@@ -1,4 +1,4 @@
-//! The server, over a socket.
+//! mps_program (`serve_to`), mps_hub: a server answers a client over a socket, then tells how long its journals are.
 
 use mps_dev::{Pieces, Short};
 use mps_hub::{Hub, Limits};
@@ -15,8 +15,10 @@ use std::thread::{Threads, join};
 use std::time::{Clock, Duration};
 use std::{io, thread};
 
+// a gives b an int, and b gives c one.
 const RELAY: &[u8] = b"roles a b c ; a -> b : int . b -> c : int . end";
 
+// a gives b an int, b gives c one, and c tells a `ok` or `no`.
 const VERDICT: &[u8] =
     b"roles a b c ; a -> b : int . b -> c : int . c -> a { ok : end , no : end }";
 
@@ -99,6 +101,7 @@ fn free_port<R: Net<Listener = TcpListener, Stream = TcpStream>>(rt: &R) -> io::
     TcpListener::bind(rt, "127.0.0.1:0")?.local_addr()
 }
 
+// A server of two sessions tells its port, and once its one client has gone the length of each journal: 0 and 1.
 #[test]
 fn serves_a_client(rt: HostRuntime) -> Result<(), Fail> {
     let alloc = rt.alloc();
@@ -116,6 +119,7 @@ fn serves_a_client(rt: HostRuntime) -> Result<(), Fail> {
     Ok(())
 }
 
+// The greatest number of a first session is 2^63 (`1 << 63`), 9223372036854775808. The next session has the next one.
 #[test]
 fn numbers_sessions_to_the_last(rt: HostRuntime) -> Result<(), Fail> {
     let alloc = rt.alloc();
@@ -140,6 +144,7 @@ const COUNTED: &[u8] = b"join 1 a\nsend b 5\nsend b 6\nundo 1\nnews 0\nundo 1\ns
 const ANSWERS: &[u8] =
     b"joined 1 a\ndone 1\nrefused wrongact\nundone 1\nnews 2\nrefused nostep\ndone 2\n";
 
+// A journal has an entry for each change that was accepted, 3 of these 6 lines.
 #[test]
 fn counts_accepted_commands(rt: HostRuntime) -> Result<(), Fail> {
     let alloc = rt.alloc();

@@ -1,4 +1,4 @@
-//! How the session stands after each line of a script: what `show` answers, written out by hand.
+//! mps_program, mps_wire, mps_show: after each line of a script `show` answers the JSON that was written out by hand.
 use crate::parts::answers;
 use crate::reversals::{LOOP, PAIRS, RELAY, put_line};
 use std::alloc::{AllocError, Global};
@@ -13,6 +13,7 @@ struct Row(&'static str, &'static [Line]);
 
 // ---- a gives b a number, b gives c one, and c tells a that it is fine or not
 
+// The session of the relay as it is shown after the steps that the names tell; 5 and 7 are the numbers given.
 const NOTHING: &str = concat!(
     r#"{"history":[],"queues":[],"roles":["#,
     r#"{"expects":"send b int","past":[],"role":"a","store":[]},"#,
@@ -85,7 +86,9 @@ const GREATEST: &str = concat!(
     r#"{"expects":"recv b int","past":[],"role":"c","store":[]}]}"#,
 );
 
+// Scripts of the relay, with what is shown after each line.
 const RELAYS: &[Row] = &[
+    // undos lead back to what was shown before, and a refusal changes nothing
     Row(
         RELAY,
         &[
@@ -96,6 +99,7 @@ const RELAYS: &[Row] = &[
             ("a undo 1", "undone 1", NOTHING),
         ],
     ),
+    // a rollback of all leaves a new session; news changes nothing
     Row(
         RELAY,
         &[
@@ -110,6 +114,7 @@ const RELAYS: &[Row] = &[
             ("c news 9", "news 5", NOTHING),
         ],
     ),
+    // a rollback from b's receipt on leaves a's send, whose number waits again
     Row(
         RELAY,
         &[
@@ -120,6 +125,7 @@ const RELAYS: &[Row] = &[
             ("b rollback 2", "undone 4 3 2", SENT),
         ],
     ),
+    // refused steps and undos change nothing
     Row(
         RELAY,
         &[
@@ -132,6 +138,7 @@ const RELAYS: &[Row] = &[
             ("b undo 1", "refused notyours", SENT),
         ],
     ),
+    // to the end of each role's part, with a mark after it
     Row(
         RELAY,
         &[
@@ -147,6 +154,7 @@ const RELAYS: &[Row] = &[
             ("a send b 1", "refused ended", MARKED),
         ],
     ),
+    // the greatest int, 2^63 - 1, and one more
     Row(
         RELAY,
         &[
@@ -162,6 +170,7 @@ const RELAYS: &[Row] = &[
 // b gives c a number when it has one from a.
 const HANDING: &str = "roles a b c ; a -> b : int . b -> c : int . end";
 
+// The script of such a relay, with what is shown after each line.
 const HANDINGS: &[Row] = &[Row(
     HANDING,
     &[
@@ -212,6 +221,7 @@ const HANDINGS: &[Row] = &[Row(
 
 // ---- two pairs that have nothing to do with each other
 
+// The session of the pairs as it is shown after the steps that the names tell.
 const A_SENT: &str = concat!(
     r#"{"history":[[1,"a","send","b",1]],"queues":[["a","b",[1]]],"roles":["#,
     r#"{"expects":"end","past":[1],"role":"a","store":[]},"#,
@@ -264,7 +274,9 @@ const C_AND_A_SENT_3: &str = concat!(
     r#"{"expects":"recv c int","past":[],"role":"d","store":[]}]}"#,
 );
 
+// Scripts of two pairs, with what is shown after each line.
 const TWO_PAIRS: &[Row] = &[
+    // a rollback leaves what doesn't depend on it, with its number
     Row(
         PAIRS,
         &[
@@ -273,6 +285,7 @@ const TWO_PAIRS: &[Row] = &[
             ("a rollback 1", "undone 1", STEP_2_STAYS),
         ],
     ),
+    // steps in the other order, and with another value
     Row(
         PAIRS,
         &[
@@ -291,6 +304,7 @@ const TWO_PAIRS: &[Row] = &[
 
 // ---- a gives b numbers without end
 
+// The session of the loop as it is shown after the steps that the names tell.
 const NO_NUMBER: &str = concat!(
     r#"{"history":[],"queues":[],"roles":["#,
     r#"{"expects":"send b int","past":[],"role":"a","store":[]},"#,
@@ -419,7 +433,9 @@ const Y_IS_1: &str = concat!(
     r#"{"expects":"recv a int","past":[7],"role":"b","store":[["y",1]]}]}"#,
 );
 
+// Scripts of the loop, with what is shown after each line.
 const LOOPS: &[Row] = &[
+    // an undone receipt: its message waits in front again
     Row(
         LOOP,
         &[
@@ -430,6 +446,7 @@ const LOOPS: &[Row] = &[
             ("b recv a x", "done 4 1", RECEIVED_AGAIN),
         ],
     ),
+    // an undone send: its message waits no more
     Row(
         LOOP,
         &[
@@ -441,6 +458,7 @@ const LOOPS: &[Row] = &[
             ("b recv a x", "done 4 9", ANOTHER_RECEIVED),
         ],
     ),
+    // a slot gets back what it was bound to
     Row(
         LOOP,
         &[
@@ -451,6 +469,7 @@ const LOOPS: &[Row] = &[
             ("b undo 4", "undone 4", FIRST_RECEIVED),
         ],
     ),
+    // a refused undo changes nothing: the next send, or the receipt, depends on the step
     Row(
         LOOP,
         &[
@@ -469,6 +488,7 @@ const LOOPS: &[Row] = &[
             ("a undo 1", "refused needed 2", SENT_BEHIND_IT),
         ],
     ),
+    // returns to a mark, which stays until it is undone
     Row(
         LOOP,
         &[
@@ -481,6 +501,7 @@ const LOOPS: &[Row] = &[
             ("a back m", "refused nomark", NO_NUMBER),
         ],
     ),
+    // a number is not given out again
     Row(
         LOOP,
         &[
@@ -490,6 +511,7 @@ const LOOPS: &[Row] = &[
             ("a undo 1", "refused nostep", SECOND_WAITS),
         ],
     ),
+    // two slots are bound and get back what they had, x twice, and keep their places
     Row(
         LOOP,
         &[
@@ -530,37 +552,43 @@ fn run_shown(rt: &impl Abort, alloc: Global, show: &str, rows: &[Row]) -> Result
     Ok(())
 }
 
+// `show` of a, the first role, after each line of the relay's scripts.
 #[test]
 fn shows_relays_to_their_first(rt: HostRuntime) -> Result<(), Fail> {
     run_shown(&rt, rt.alloc(), "a show", RELAYS)
 }
 
+// `show` of c, the last role, is the same: what is shown doesn't depend on who asks.
 #[test]
 fn shows_relays_to_their_last(rt: HostRuntime) -> Result<(), Fail> {
     run_shown(&rt, rt.alloc(), "c show", RELAYS)
 }
 
+// `show` of b, who stands in the middle, after each line of a relay without a choice.
 #[test]
 fn shows_what_is_handed_on(rt: HostRuntime) -> Result<(), Fail> {
     run_shown(&rt, rt.alloc(), "b show", HANDINGS)
 }
 
+// `show` of d, who does nothing, after each line of what the others do.
 #[test]
 fn shows_two_pairs(rt: HostRuntime) -> Result<(), Fail> {
     run_shown(&rt, rt.alloc(), "d show", TWO_PAIRS)
 }
 
+// `show` of a, who sends, after each line of the loop's scripts.
 #[test]
 fn shows_loops_to_the_sender(rt: HostRuntime) -> Result<(), Fail> {
     run_shown(&rt, rt.alloc(), "a show", LOOPS)
 }
 
+// `show` of b, who receives, is the same: what is shown doesn't depend on who asks.
 #[test]
 fn shows_loops_to_the_receiver(rt: HostRuntime) -> Result<(), Fail> {
     run_shown(&rt, rt.alloc(), "b show", LOOPS)
 }
 
-// After 100,000 entries of the journal the session is still shown.
+// The session with 100,000 entries: 49,999 marks and their undos, and two marks more, which are steps 50000 and 50001.
 const FULL: &str = concat!(
     r#"{"history":[[50000,"a","mark","m"],[50001,"a","mark","m"]],"queues":[],"roles":["#,
     r#"{"expects":"send b int","past":[50000,50001],"role":"a","store":[]},"#,
@@ -569,6 +597,7 @@ const FULL: &str = concat!(
     r#"{"expects":"recv c int","past":[],"role":"d","store":[]}]}"#,
 );
 
+// What is refused then, each line for its first reason, and what is still answered.
 const AT_THE_LIMIT: &[Line] = &[
     ("a mark m", "refused full", FULL),
     ("a undo 50001", "refused full", FULL),
@@ -588,6 +617,7 @@ fn fill(alloc: Global, script: &mut String, want: &mut String) -> Result<(), All
     want.push_str("done 50000\ndone 50001\n")
 }
 
+// A room with 100,000 entries refuses what it would accept as full, and still tells news and shows the session.
 #[test]
 fn shows_a_full_session(rt: HostRuntime) -> Result<(), Fail> {
     let (mut script, mut want) = (String::new(rt.alloc()), String::new(rt.alloc()));

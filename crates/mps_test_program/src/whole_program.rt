@@ -1,4 +1,4 @@
-//! The program as a whole, on a machine in memory.
+//! mps_program, mps_words: what a call of the program prints and tells, and its exit status, on a machine in memory.
 use crate::fake::Machine;
 use mps_program::{ToolFault, carry_out, check_file, end_after, run_file};
 use mps_words::{Order, order};
@@ -7,28 +7,36 @@ use std::process::{Abort, ExitCode};
 use std::rt::Files;
 use std::test::Fail;
 
+// a gives b an int, and b gives c one, here over several lines.
 const RELAY: &str = "roles a b c ;\na -> b : int .\nb -> c : int .\nend\n";
 
+// The whole relay. The last line has no LF.
 const SCRIPT: &str = "a send b 5\nb recv a x\nb send c 7\nc recv b y";
 
+// a gives b a text, and b gives a a bool.
 const GREETING: &str = "roles a b ; a -> b : text . b -> a : bool . end";
 
+// Both are given and received.
 const WORDS: &str = "a send b \"good day\"\nb recv a x\nb send a true\na recv b y\n";
 
 // In a loop, `a` chooses; at `go`, `b` answers a text.
 const TALK: &str = "roles a b ; rec X . a -> b { go : b -> a : text . X , stop : end }";
 
+// Two turns of the loop. Line 4 comes too early, and the last one after the end.
 const TALKED: &str = "a choose b go\nb pick a\nb send a \"good day\"\na choose b stop\n\
     a recv b w\na choose b stop\nb pick a\nb pick a\n";
 
 // A number goes round, and then `c` chooses.
 const RING: &str = "roles a b c ; a -> b : int . b -> c : int . c -> a { ok : end , no : end }";
 
+// Four lines that are refused in a new session of the ring.
 const STRAY: &str = "b recv a x\na recv b x\na send c 5\na send b true\n";
 
+// The ring to its end, with three lines that are refused.
 const ROUND: &str = "a send b 5\nb recv a x\nb send c 7\nc recv b y\nc choose a maybe\n\
     a pick c\nc choose a ok\na pick c\na mark e\na send b 1\n";
 
+// Two numbers into the same slot.
 const TWICE: &str = "a send b 1\na send b 2\nb recv a x\nb recv a x\n";
 
 // What goes round is taken back from `b` on, and goes round once more.
@@ -41,6 +49,7 @@ const UNENDED: &str = "a send b 5\na undo 1";
 // Two numbers that have nothing to do with each other.
 const PAIRS: &str = "roles a b c d ; a -> b : int . c -> d : int . end";
 
+// The files of the machine. `torn` opens and can't be read; `-` is the standard input.
 const FILES: &[(&str, &str)] = &[
     ("pairs", PAIRS),
     ("ab first", "a send b 1\nc send d 2\n"),
@@ -72,8 +81,8 @@ const FILES: &[(&str, &str)] = &[
     ("scribble", SCRIBBLE),
 ];
 
-// The words that the program is called with, after its name; room for so many printed bytes; what is
-// printed; what is told on the standard error; and the status, which is 0 for success.
+// The words that the program is called with; room for so many bytes that are printed at once, of which 1,000 are
+// enough; what is printed; what is told on the standard error; and the status.
 struct Row(
     &'static [&'static str],
     usize,
@@ -83,6 +92,7 @@ struct Row(
 );
 
 const RUNS: &[Row] = &[
+    // a script in a file; output that can't be written; a script on the standard input; an empty one
     Row(
         &["mps_tool", "run", "relay", "script"],
         1000,
@@ -105,6 +115,7 @@ const RUNS: &[Row] = &[
         0,
     ),
     Row(&["mps_tool", "run", "relay", "empty"], 1000, "", "", 0),
+    // a file that isn't there
     Row(
         &["mps_tool", "run", "relay", "no script"],
         1000,
@@ -137,6 +148,7 @@ const RUNS: &[Row] = &[
 ];
 
 const STRICT: &[Row] = &[
+    // no line is refused
     Row(
         &["mps_tool", "run", "--strict", "relay", "script"],
         1000,
@@ -144,6 +156,7 @@ const STRICT: &[Row] = &[
         "",
         0,
     ),
+    // the first refused line is the last that is answered, and its number is told
     Row(
         &["mps_tool", "run", "--strict", "talk", "talked"],
         1000,
@@ -158,6 +171,7 @@ const STRICT: &[Row] = &[
         "refused at line 1\n",
         1,
     ),
+    // faults are told as in any run
     Row(
         &["mps_tool", "run", "--strict", "ring", "stray"],
         8,
@@ -174,6 +188,7 @@ const STRICT: &[Row] = &[
     ),
 ];
 
+// Refused lines don't change the status, which is 0.
 const LOOPS_AND_CHOICES: &[Row] = &[
     Row(
         &["mps_tool", "run", "talk", "talked"],
@@ -207,6 +222,7 @@ const LOOPS_AND_CHOICES: &[Row] = &[
     ),
 ];
 
+// Steps taken back and done again get new numbers.
 const TAKEN_BACK: &[Row] = &[
     Row(
         &["mps_tool", "run", "ring", "again"],
@@ -226,6 +242,7 @@ const TAKEN_BACK: &[Row] = &[
 ];
 
 const COMPARISONS: &[Row] = &[
+    // the order across roles doesn't count, a value does
     Row(
         &["mps_tool", "same", "pairs", "ab first", "cd first"],
         1000,
@@ -240,6 +257,7 @@ const COMPARISONS: &[Row] = &[
         "",
         1,
     ),
+    // output that can't be written; a file that isn't there
     Row(
         &["mps_tool", "same", "pairs", "ab first", "ab first"],
         4,
@@ -276,6 +294,7 @@ const COMPARISONS: &[Row] = &[
         "refused file no script\n",
         2,
     ),
+    // no accepted step against seven
     Row(
         &["mps_tool", "same", "ring", "stray", "round"],
         1000,
@@ -291,6 +310,7 @@ const COMPARISONS: &[Row] = &[
         "refused file none\n",
         2,
     ),
+    // either script can't be read
     Row(
         &["mps_tool", "same", "pairs", "torn", "ab first"],
         1000,
@@ -307,7 +327,8 @@ const COMPARISONS: &[Row] = &[
     ),
 ];
 
-// With -v standard error is told more, wherever it stands.
+// With `-v`, wherever it stands, the standard error is told more: why a file isn't opened or read, and how many lines
+// of two scripts were refused. Where nothing is amiss it is told nothing.
 const VERBOSE: &[Row] = &[
     Row(
         &["mps_tool", "-v", "run", "relay", "no script"],
@@ -370,6 +391,7 @@ const SCRIBBLE: &str =
     "a  undo 1\na\na 1 send b 5\nb recv a end\na choose b\na mark X\na commit x\na news 007\n\
     a send b \"x\na send b \"x\ty\"\n";
 
+// With `-v` the standard error is told why a line spells nothing. Line 14 of the first script is a command.
 const UNREADABLE: &[Row] = &[
     Row(
         &["mps_tool", "-v", "run", "relay", "scrawl"],
@@ -426,6 +448,7 @@ const UNREADABLE: &[Row] = &[
     ),
 ];
 
+// A text and a truth value, as they are received, and as types name their sorts.
 const GREETINGS: &[Row] = &[
     Row(
         &["mps_tool", "run", "greeting", "words"],
@@ -443,12 +466,14 @@ const GREETINGS: &[Row] = &[
     ),
 ];
 
+// Both words for the version, which is that of Cargo.toml in bindings/rust.
 const VERSIONS: &[Row] = &[
     Row(&["mps_tool", "--version"], 1000, "mps_tool 0.2.0\n", "", 0),
     Row(&["mps_tool", "-V"], 1000, "mps_tool 0.2.0\n", "", 0),
 ];
 
 const CHECKS: &[Row] = &[
+    // types of a loop; output that can't be written; types of a choice
     Row(
         &["mps_tool", "check", "loop"],
         1000,
@@ -464,6 +489,7 @@ const CHECKS: &[Row] = &[
         "",
         0,
     ),
+    // a text without a token; a file that isn't there
     Row(
         &["mps_tool", "check", "empty"],
         1000,
@@ -499,6 +525,7 @@ fn called(alloc: Global, words: &[&str], room: usize) -> (Vec<u8>, Vec<u8>, Exit
     (printed, told, status)
 }
 
+// Each call prints, tells and ends as its row says.
 fn plays(rt: &impl Abort, alloc: Global, rows: &[Row]) {
     for Row(words, room, out, err, code) in rows {
         let (printed, told, status) = called(alloc, words, *room);
@@ -508,51 +535,61 @@ fn plays(rt: &impl Abort, alloc: Global, rows: &[Row]) {
     }
 }
 
+// `mps_tool run` prints the answers, or tells one line of what went wrong, with its status.
 #[test]
 fn runs_scripts(rt: HostRuntime) {
     plays(&rt, rt.alloc(), RUNS)
 }
 
+// `mps_tool run --strict` ends with the first refused line, and with status 1 then.
 #[test]
 fn runs_to_the_first_refusal(rt: HostRuntime) {
     plays(&rt, rt.alloc(), STRICT)
 }
 
+// `mps_tool run` answers each line, refused ones too, in order.
 #[test]
 fn runs_loops_and_choices(rt: HostRuntime) {
     plays(&rt, rt.alloc(), LOOPS_AND_CHOICES)
 }
 
+// `mps_tool run` answers rollbacks and undos, also in a last line without an LF.
 #[test]
 fn takes_back_what_went_round(rt: HostRuntime) {
     plays(&rt, rt.alloc(), TAKEN_BACK)
 }
 
+// `mps_tool same` prints `same` or `different`, with status 0 or 1, or tells what went wrong.
 #[test]
 fn compares_files(rt: HostRuntime) {
     plays(&rt, rt.alloc(), COMPARISONS)
 }
 
+// `mps_tool -v` tells the system's reason, and the lines that were refused, beside the fault's own line.
 #[test]
 fn says_more(rt: HostRuntime) {
     plays(&rt, rt.alloc(), VERBOSE)
 }
 
+// `mps_tool -v run` tells the number of each unreadable line, and why. A strict run tells no more than its last line.
 #[test]
 fn says_why_lines_are_unreadable(rt: HostRuntime) {
     plays(&rt, rt.alloc(), UNREADABLE)
 }
 
+// `mps_tool run` and `check` write texts and truth values, and their sorts.
 #[test]
 fn sends_texts_and_truth_values(rt: HostRuntime) {
     plays(&rt, rt.alloc(), GREETINGS)
 }
 
+// `mps_tool --version` and `-V` print it, with status 0.
 #[test]
 fn tells_its_version(rt: HostRuntime) {
     plays(&rt, rt.alloc(), VERSIONS)
 }
 
+// `mps_tool check` prints a line for each role, or tells the first fault, with its status.
 #[test]
 fn checks_protocols(rt: HostRuntime) {
     plays(&rt, rt.alloc(), CHECKS)
@@ -566,6 +603,7 @@ fn ends_with(alloc: Global, fault: ToolFault<'_>, line: &str, code: u8) -> bool 
     printed.is_empty() && told.as_slice() == line.as_bytes() && status == ExitCode::from(code)
 }
 
+// The program tells why a server ended, here that nothing can be accepted, or that session 2 is lost, and ends with 4.
 #[test]
 fn tells_what_ends_a_server(rt: HostRuntime) {
     let alloc = rt.alloc();
@@ -573,18 +611,21 @@ fn tells_what_ends_a_server(rt: HostRuntime) {
     assert!(rt; ends_with(alloc, ToolFault::Lost { session: 2 }, "refused lost 2\n", 4));
 }
 
+// Words that are none of the program's: nothing is printed, the standard error is told, and the status is 2.
 #[test]
 fn tells_misuse(rt: HostRuntime) {
     let (printed, told, status) = called(rt.alloc(), &["mps_tool", "fly"], 1000);
     assert!(rt; printed.is_empty() && told.ends_with(b"\n") && status == ExitCode::from(2));
 }
 
+// `mps_tool --help` prints how the program is used, tells no fault, and ends with 0.
 #[test]
 fn tells_its_use(rt: HostRuntime) {
     let (printed, told, status) = called(rt.alloc(), &["mps_tool", "--help"], 1000);
     assert!(rt; printed.ends_with(b"\n") && told.is_empty() && status == ExitCode::from(0));
 }
 
+// `run_file` and `check_file` on one machine print one after the other.
 #[test]
 fn runs_and_shows(rt: HostRuntime) {
     let machine = Machine::new(rt.alloc(), FILES, 1000);

@@ -35,6 +35,7 @@ fn cell(alloc: Global, protocol: &str) -> Result<Cell, Fail>
 // A line, and what it is answered.
 type Row = (&'static str, &'static str);
 
+// a's send can be undone once b's receipt of it is.
 const UNDONE: &[Row] = &[
     ("a send b 5", "done 1"),
     ("b recv a x", "done 2 5"),
@@ -116,6 +117,7 @@ fn passes(cell: &mut Cell) -> Result<Vec<Pass<'_>>, Fail> {
     }
 }
 
+// `Pass::call` is answered as a room answers after the calls before it, whichever passes made them.
 #[test]
 fn answers_calls(rt: HostRuntime) -> Result<(), Fail> {
     let mut cell = cell(rt.alloc(), VERDICT)?;
@@ -124,6 +126,7 @@ fn answers_calls(rt: HostRuntime) -> Result<(), Fail> {
     Ok(())
 }
 
+// `Pass::try_call` never finds the cell busy where no call is under way, and is answered as a call is.
 #[test]
 fn answers_tries_of_a_free_cell(rt: HostRuntime) -> Result<(), Fail> {
     let mut cell = cell(rt.alloc(), VERDICT)?;
@@ -161,6 +164,7 @@ fn has_given(cell: &mut Cell) -> bool {
     matches!(cell.passes(), Err(PassFault::Given))
 }
 
+// `Cell::passes` gives a pass for each of the four roles, in order, and ever after says that they were given.
 #[test]
 fn gives_its_passes_once(rt: HostRuntime) -> Result<(), Fail> {
     let mut cell = cell(rt.alloc(), TWO_PAIRS)?;
@@ -186,6 +190,7 @@ enum Ask {
     Mark,
 }
 
+// The command itself.
 fn command(ask: Ask) -> Option<Command> {
     match ask {
         Ask::Send => Some(Command::Forward(Forward::Send {
@@ -324,6 +329,7 @@ fn entries_after<R: Wait>(rt: &R, mut cell: Cell) -> Option<u64> {
     Some(cell.close_with(leave)?.entries())
 }
 
+// `meet` tells which pass has seen more: a after its call, neither after a look of c. The closed room has a's entry.
 #[test]
 fn two_passes_meet(rt: HostRuntime) -> Result<(), Fail> {
     let cell = cell(rt.alloc(), TWO_PAIRS)?;
@@ -378,6 +384,7 @@ fn probed<R: Wait>(rt: &R, a: &mut Pass<'_>, c: &mut Pass<'_>) -> Option<bool> {
     let mut probe = Probe {
         other: c,
         pauses: 0,
+        // a length that no look finds: the journal is empty then
         length: 9,
         same: 0,
         busy: None,
@@ -393,6 +400,7 @@ fn probed<R: Wait>(rt: &R, a: &mut Pass<'_>, c: &mut Pass<'_>) -> Option<bool> {
     )
 }
 
+// The session after a's send, as it is shown.
 const SENT: &str =
     r#"{"history":[[1,"a","send","b",1]],"queues":[["a","b",[1]]],"roles":[{"expects":"end","past":[1],"role":"a","store":[]},{"expects":"recv a int","past":[],"role":"b","store":[]},{"expects":"send d int","past":[],"role":"c","store":[]},{"expects":"recv c int","past":[],"role":"d","store":[]}]}"#;
 
@@ -416,6 +424,7 @@ fn is_found_out<R: Wait>(rt: &R, all: Vec<Pass<'_>>) -> bool {
     }
 }
 
+// While a's call has the room, c's `try_call` is busy, and neither it nor `front` waits: both tell the length, 0.
 #[test]
 fn finds_the_room_out(rt: HostRuntime) -> Result<(), Fail> {
     let mut cell = cell(rt.alloc(), TWO_PAIRS)?;
@@ -485,8 +494,10 @@ fn counts_at_home(cell: Cell) -> Option<(u64, usize, u64)> {
     }
 }
 
+// In one thread a sends and undoes 1,000 times, in another c marks and undoes as often. All is accepted: the one
+// journal has 4,000 entries, no step survives, and 2,000 numbers were given out.
 #[test]
-fn two_threads_fill_the_room(rt: HostRuntime) -> Result<(), Fail> {
+fn two_threads_share_a_journal(rt: HostRuntime) -> Result<(), Fail> {
     let mut cell = cell(rt.alloc(), TWO_PAIRS)?;
     let done = both(&rt, passes(&mut cell)?);
     assert!(rt; done == Some((true, true)));
@@ -573,9 +584,10 @@ fn marked_by_all<R: Threads + Wait + Sync>(
     Some((shown, equal_pairs(cell, all)))
 }
 
-// Eight passes make 28 pairs; each does a step and its undo 1,000 times.
+// Eight passes, each in a thread, do a step and its undo 1,000 times. All are shown the one journal of 16,000 entries,
+// so in each of their 28 pairs both have seen equally much.
 #[test]
-fn eight_threads_fill_the_room(rt: HostRuntime) -> Result<(), Fail> {
+fn eight_threads_share_a_journal(rt: HostRuntime) -> Result<(), Fail> {
     let mut cell = cell(rt.alloc(), SILENCE)?;
     let deal = cell.deal().ok_or("given")?;
     assert!(rt; marked_by_all(&rt, &cell, deal, 16_000) == Some((8, 28)));
@@ -703,6 +715,7 @@ fn overlapped_after_a_send<R: Threads + Wait + Clock + Sync>(
     Some(overlapped(rt, a, c))
 }
 
+// While a has the room, c's try is busy, and tells the one entry that c hasn't seen. c's call is answered once a's is.
 #[test]
 fn a_call_waits_for_the_room(rt: HostRuntime) -> Result<(), Fail> {
     let mut cell = cell(rt.alloc(), TWO_PAIRS)?;
@@ -710,6 +723,7 @@ fn a_call_waits_for_the_room(rt: HostRuntime) -> Result<(), Fail> {
     let c = Found {
         busy: Some(1),
         seen: 0,
+        // after a's send, 1, and its mark, 2
         number: Some(3),
         is_back: true,
     };
@@ -720,6 +734,7 @@ fn a_call_waits_for_the_room(rt: HostRuntime) -> Result<(), Fail> {
 
 // ---- numbered commands
 
+// A line with its number, what it comes to, and which number is the newest then, with its answer.
 const NUMBERED: &[numbers::Row<'static>] = &[
     ("1 send b 1", "Fresh", 1, "done 1"),
     ("1 send b 1", "Kept", 1, "done 1"),
@@ -756,6 +771,7 @@ fn undone_text<C: Caller>(alloc: Global, caller: &mut C) -> Result<String, Fail>
 // Whether the rows come to what they say, one after the other, and then an undo with no number.
 fn goes_by_numbers<R: Wait>(alloc: Global, caller: &mut Held<'_, '_, R>) -> Result<bool, Fail> {
     are_numbered(alloc, caller, NUMBERED)?;
+    // the three accepted lines; the undo below has no number
     Ok(
         caller.pass.seen() == 3
             && undone_text(alloc, caller)?.as_str() == "undone 1"
@@ -773,6 +789,7 @@ fn first_waiting<'r, 'a, R: Wait>(rt: &'r R, cell: &'a mut Cell) -> Option<Held<
     })
 }
 
+// A pass calls a numbered command once (`Fresh`), keeps its answer (`Kept`), and calls no other number (`Wrong`).
 #[test]
 fn keeps_the_answer_to_a_number(rt: HostRuntime) -> Result<(), Fail> {
     let mut cell = cell(rt.alloc(), TWO_PAIRS)?;

@@ -1,4 +1,4 @@
-//! Tests of what sessions show, of rooms and of cells, over what their crates make public.
+//! Tests of mps_show, mps_room and mps_cell, over what these make public.
 #![tactic(auto)]
 
 #[cfg(test)]

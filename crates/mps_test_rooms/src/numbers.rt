@@ -17,6 +17,7 @@ fn stand(numbers: &Numbers, rows: &[(u64, Position)]) -> bool {
     true
 }
 
+// Numbers, and where they stand before any is accepted.
 const AT_FIRST: &[(u64, Position)] = &[
     (0, Position::Elsewhere),
     (1, Position::Next),
@@ -24,6 +25,7 @@ const AT_FIRST: &[(u64, Position)] = &[
     (u64::MAX, Position::Elsewhere),
 ];
 
+// Numbers, and where they stand once number 1 was accepted.
 const AFTER_ONE: &[(u64, Position)] = &[
     (0, Position::Elsewhere),
     (1, Position::Last),
@@ -44,6 +46,7 @@ fn is_kept(alloc: Global, numbers: &Numbers) -> Result<bool, Fail> {
     }
 }
 
+// `Numbers` keeps the newest accepted number with its answer, and `Position::of` says which number may come next.
 #[test]
 fn keeps_the_newest_number(rt: HostRuntime) -> Result<(), Fail> {
     let answer = undone(rt.alloc())?;
@@ -108,18 +111,21 @@ pub(crate) fn are_numbered<C: Caller>(
 }
 
 const NUMBERED: &[Row<'static>] = &[
+    // a number again, and numbers that are neither the newest nor the next
     ("1 send b 5", "Fresh", 1, "done 1"),
     ("1 send b 5", "Kept", 1, "done 1"),
     ("3 mark m", "Wrong", 1, "done 1"),
     ("2 mark m", "Fresh", 2, "done 2"),
     ("1 mark m", "Wrong", 2, "done 2"),
     ("0 mark m", "Wrong", 2, "done 2"),
+    // the newest number, whatever it asks for; a refused number, which may come again
     ("2 undo 9", "Kept", 2, "done 2"),
     ("3 undo 9", "Refused(NoStep)", 2, "done 2"),
     ("3 undo 2", "Fresh", 3, "undone 2"),
     ("3 undo 2", "Kept", 3, "undone 2"),
     ("4 back m", "Refused(NoMark)", 3, "undone 2"),
     ("4 rollback 1", "Fresh", 4, "undone 1"),
+    // a commit, which is kept as any step
     ("5 commit", "Fresh", 5, "done 3"),
     ("5 commit", "Kept", 5, "done 3"),
     ("6 undo 3", "Refused(Final { by: StepId(3) })", 5, "done 3"),
@@ -139,7 +145,8 @@ fn news<C: Caller>(alloc: Global, caller: &mut C) -> Result<String, Fail> {
     told(alloc, &caller.call(Command::News(0)))
 }
 
-// Whether the rows come to what they say, one after the other, and what the room has then.
+// Whether the rows come to what they say, one after the other. Five of them are called and accepted, so there are five
+// entries, and no news, since nobody else took a step back.
 fn goes_by_numbers(alloc: Global, solo: &mut Solo) -> Result<bool, Fail> {
     are_numbered(alloc, solo, NUMBERED)?;
     Ok(
@@ -150,6 +157,7 @@ fn goes_by_numbers(alloc: Global, solo: &mut Solo) -> Result<bool, Fail> {
     )
 }
 
+// `call_numbered` calls a number's command once (`Fresh`), keeps its answer (`Kept`), and calls no other (`Wrong`).
 #[test]
 fn calls_with_numbers(rt: HostRuntime) -> Result<(), Fail> {
     let mut solo = new_solo(rt.alloc())?;

@@ -139,6 +139,7 @@ fn play_row(alloc: Global, room: &mut Room, row: Row) -> Result<(), Fail> {
     Ok(())
 }
 
+// The rows are played one after the other.
 fn play(alloc: Global, room: &mut Room, rows: &[Row]) -> Result<(), Fail> {
     for row in rows {
         play_row(alloc, room, *row)?;
@@ -154,6 +155,7 @@ fn play_anew(alloc: Global, protocol: &str, rows: &[Row]) -> Result<(), Fail> {
 
 // ---- a relay with a verdict
 
+// a takes all back. News tells b and c which of their steps went in entry 5, and a nothing of its own rollback.
 const ROLLED_BACK: &[Row] = &[
     ("a send b 5", "done 1"),
     ("b recv a x", "done 2 5"),
@@ -163,12 +165,14 @@ const ROLLED_BACK: &[Row] = &[
     ("b news 0", "news 5 3 2"),
     ("a news 0", "news 5"),
     ("c news 0", "news 5 4"),
+    // after the first 4, 5, 9 and 2^64 - 1 entries, of 5
     ("c news 4", "news 5 4"),
     ("c news 5", "news 5"),
     ("c news 9", "news 5"),
     ("c news 18446744073709551615", "news 5"),
 ];
 
+// The steps that survive the rows below.
 const SETTLED_SHOWN: &str =
     r#"{"history":[[1,"a","send","b",5],[2,"b","recv","a","x",5],[3,"b","commit"],[4,"b","send","c",7],[5,"c","recv","b","y",7],[6,"c","mark","m"],[7,"c","commit"],[8,"c","commit"]],"queues":[],"roles":[{"expects":"pick c ok no","past":[1],"role":"a","store":[]},{"expects":"end","past":[2,3,4],"role":"b","store":[["x",5]]},{"expects":"choose a ok no","past":[5,6,7,8],"role":"c","store":[["y",7]]}]}"#;
 
@@ -177,6 +181,7 @@ const SETTLED: &[Row] = &[
     ("a send b 5", "done 1"),
     ("b recv a x", "done 2 5"),
     ("b commit", "done 3"),
+    // what would take back b's commit, or is needed for it
     ("a rollback 1", "refused final 3"),
     ("a undo 1", "refused needed 2"),
     ("b undo 3", "refused final 3"),
@@ -185,17 +190,21 @@ const SETTLED: &[Row] = &[
     ("c recv b y", "done 5 7"),
     ("c mark m", "done 6"),
     ("c commit", "done 7"),
+    // what would take back c's commit, 7
     ("c back m", "refused final 7"),
     ("b rollback 4", "refused final 7"),
     ("c commit", "done 8"),
+    // what follows the commits can be taken back
     ("c mark k", "done 9"),
     ("c back k", "undone"),
     ("c undo 9", "undone 9"),
     ("b rollback 2", "refused final 3"),
+    // nine steps, an empty return and an undo are entries, refusals are none
     ("b news 0", "news 11"),
     ("b show", SETTLED_SHOWN),
 ];
 
+// Single steps are undone by their roles, which is no news to the others.
 const UNDONE: &[Row] = &[
     ("a send b 5", "done 1"),
     ("b recv a x", "done 2 5"),
@@ -206,12 +215,15 @@ const UNDONE: &[Row] = &[
     ("b news 0", "news 4"),
 ];
 
+// The session after a's send, as it is shown.
 const SENT: &str =
     r#"{"history":[[1,"a","send","b",5]],"queues":[["a","b",[5]]],"roles":[{"expects":"pick c ok no","past":[1],"role":"a","store":[]},{"expects":"recv a int","past":[],"role":"b","store":[]},{"expects":"recv b int","past":[],"role":"c","store":[]}]}"#;
 
+// The same after b's receipt.
 const RECEIVED: &str =
     r#"{"history":[[1,"a","send","b",5],[2,"b","recv","a","x",5]],"queues":[],"roles":[{"expects":"pick c ok no","past":[1],"role":"a","store":[]},{"expects":"send c int","past":[2],"role":"b","store":[["x",5]]},{"expects":"recv b int","past":[],"role":"c","store":[]}]}"#;
 
+// c tells its verdict; then b takes its receipt back, and all that followed.
 const TOLD: &[Row] = &[
     ("a send b 5", "done 1"),
     ("a show", SENT),
@@ -230,6 +242,7 @@ const TOLD: &[Row] = &[
     ("c news 7", "news 8 5 4"),
 ];
 
+// Refusals of steps, undos, rollbacks and returns, beside one step that is accepted.
 const REFUSED: &[Row] = &[
     ("b recv a x", "refused nothingqueued"),
     ("a recv b x", "refused wrongact"),
@@ -244,6 +257,7 @@ const REFUSED: &[Row] = &[
     ("a undo 0", "refused nostep"),
 ];
 
+// `Room::apply` answers each line as its row says. What is accepted is the journal's next entry, and nothing else is.
 #[test]
 fn relays_and_tells_a_verdict(rt: HostRuntime) -> Result<(), Fail> {
     for rows in [ROLLED_BACK, SETTLED, UNDONE, TOLD, REFUSED] {
@@ -254,6 +268,7 @@ fn relays_and_tells_a_verdict(rt: HostRuntime) -> Result<(), Fail> {
 
 // ---- a loop
 
+// A return takes back what follows the mark, and a second one nothing. Texts may be empty.
 const MARKED: &[Row] = &[
     ("a mark m", "done 1"),
     ("a send b \"good day\"", "done 2"),
@@ -268,6 +283,7 @@ const MARKED: &[Row] = &[
     ("b news 4", "news 7"),
 ];
 
+// `Room::apply` keeps a return that takes nothing back as an entry too: `news` counts it.
 #[test]
 fn goes_back_to_a_mark(rt: HostRuntime) -> Result<(), Fail> {
     play_anew(rt.alloc(), TEXTS, MARKED)
@@ -275,6 +291,7 @@ fn goes_back_to_a_mark(rt: HostRuntime) -> Result<(), Fail> {
 
 // ---- each kind of entry
 
+// a gives b an int, a bool and a text, and b tells a `ok` or `no`.
 const EACH_SORT: &str =
     "roles a b ; a -> b : int . a -> b : bool . a -> b : text . b -> a { ok : end , no : end }";
 
@@ -321,6 +338,7 @@ fn keeps_each(alloc: Global, room: &mut Room) -> Result<bool, Fail> {
     has_entries(alloc, room, EACH_KIND)
 }
 
+// `Room::entry` gives each entry with its answer, and `Room::command` the command alone, as they were accepted.
 #[test]
 fn keeps_each_kind_of_entry(rt: HostRuntime) -> Result<(), Fail> {
     let mut room = room(rt.alloc(), EACH_SORT)?;
@@ -354,9 +372,11 @@ fn play_nearly_full(alloc: Global, room: &mut Room, rows: &[Row]) -> Result<(), 
     play(alloc, room, rows)
 }
 
+// The two marks that survive, with the numbers of the rows below.
 const MARKS_SHOWN: &str =
     r#"{"history":[[50000,"a","mark","m"],[50001,"a","mark","m"]],"queues":[],"roles":[{"expects":"send b int","past":[50000,50001],"role":"a","store":[]},{"expects":"recv a int","past":[],"role":"b","store":[]},{"expects":"send d int","past":[],"role":"c","store":[]},{"expects":"recv c int","past":[],"role":"d","store":[]}]}"#;
 
+// 49,999 marks have used up 49,999 numbers, so the next two are 50000 and 50001. With them there are 100,000 entries.
 const FULL: &[Row] = &[
     ("a mark m", "done 50000"),
     ("a mark m", "done 50001"),
@@ -364,6 +384,7 @@ const FULL: &[Row] = &[
     ("a undo 50001", "refused full"),
     ("a rollback 50000", "refused full"),
     ("a back m", "refused full"),
+    // what is refused anyway has its own reason, and questions are answered
     ("a back k", "refused nomark"),
     ("a undo 50000", "refused needed 50001"),
     ("a undo 1", "refused nostep"),
@@ -372,13 +393,14 @@ const FULL: &[Row] = &[
     ("a show", MARKS_SHOWN),
 ];
 
+// A journal has 100,000 entries at most (`MAX_ENTRIES`); then `Room::apply` refuses as full what it would accept.
 #[test]
 fn is_full_with_a_hundred_thousand_entries(rt: HostRuntime) -> Result<(), Fail> {
     let mut room = room(rt.alloc(), TWO_PAIRS)?;
     play_nearly_full(rt.alloc(), &mut room, FULL)
 }
 
-// A commit stands in the way before it is looked at whether the journal is full.
+// Here the last entry is a commit, which stands in the way before it is looked at whether the journal is full.
 const FULL_WITH_A_COMMIT: &[Row] = &[
     ("a mark m", "done 50000"),
     ("a commit", "done 50001"),
@@ -390,6 +412,7 @@ const FULL_WITH_A_COMMIT: &[Row] = &[
     ("a news 0", "news 100000"),
 ];
 
+// In a full journal `Room::apply` names the commit that an undo, a rollback or a return would take back.
 #[test]
 fn names_a_commit_where_the_journal_is_full(rt: HostRuntime) -> Result<(), Fail> {
     let mut room = room(rt.alloc(), TWO_PAIRS)?;
@@ -423,7 +446,8 @@ fn is_answered_at_last(alloc: Global, room: &mut Room, row: Row) -> Result<(), F
     is_wanted(alloc, &answer, row.1)
 }
 
-// Under `rt try --test --fail-alloc` a request for memory is refused on the way.
+// Where memory runs out for `Room::apply`, nothing has changed, and the line can be given again. That shows under `rt
+// try --test --fail-alloc` alone, which refuses a request for memory on the way.
 #[test]
 fn changes_nothing_for_want_of_memory(rt: HostRuntime) -> Result<(), Fail> {
     let mut room = room(rt.alloc(), VERDICT)?;
@@ -458,6 +482,7 @@ fn taken_back(room: &mut Room) -> Result<Option<usize>, Fail> {
     Ok(count_taken(&answer))
 }
 
+// A rollback of the first of 1,000 marks takes all back. That is entry 1,001, and no number more.
 #[test]
 fn takes_back_a_thousand_steps(rt: HostRuntime) -> Result<(), Fail> {
     let mut room = marked(rt.alloc(), 1000)?;
@@ -487,9 +512,11 @@ fn shown_lengths(alloc: Global, room: &mut Room) -> Result<(usize, usize), Fail>
 // the 17 bytes of `[,"a","mark","m"]`, and 1,099 commas part the steps and the numbers of the past.
 const THOUSAND_SHOWN: usize = 2 * (3_293 + 1_099) + 1_100 * 17 + AROUND_THEM.len();
 
+// The session as it is shown without a step.
 const AROUND_THEM: &str =
     r#"{"history":[],"queues":[],"roles":[{"expects":"send b int","past":[],"role":"a","store":[]},{"expects":"recv a int","past":[],"role":"b","store":[]}]}"#;
 
+// `show` as text and as value have the same length, that of 1,100 marks and what stands around them.
 #[test]
 fn shows_a_thousand_steps(rt: HostRuntime) -> Result<(), Fail> {
     let mut room = marked(rt.alloc(), 1_100)?;

@@ -89,6 +89,7 @@ fn plays_anew(alloc: Global, protocol: &str, rows: &[Row]) -> Result<(), Fail> {
     plays(alloc, &names, &mut session, rows)
 }
 
+// The session before the first step, and after each line.
 const RELAY: &[Row] = &[
     (
         &[],
@@ -116,11 +117,13 @@ const RELAY: &[Row] = &[
     ),
 ];
 
+// `write_show` and `show` give the history, what waits, and of each role what it expects, did and keeps.
 #[test]
 fn shows_a_relay(rt: HostRuntime) -> Result<(), Fail> {
     plays_anew(rt.alloc(), VERDICT, RELAY)
 }
 
+// The session after an undo, a rollback and a step that gets the next number, 5.
 const TAKEN_BACK: &[Row] = &[
     (
         &[
@@ -142,14 +145,17 @@ const TAKEN_BACK: &[Row] = &[
     ),
 ];
 
+// `write_show` and `show` show what replaying the surviving steps gives: nothing is left of those taken back.
 #[test]
 fn shows_what_is_left(rt: HostRuntime) -> Result<(), Fail> {
     plays_anew(rt.alloc(), VERDICT, TAKEN_BACK)
 }
 
+// a gives b a text, a bool, an int and a text.
 const SORTS: &str =
     "roles a b ; a -> b : text . a -> b : bool . a -> b : int . a -> b : text . end";
 
+// Values in the history, in the queue and in slots; -9223372036854775808 is the least int, -2^63.
 const EACH_SORT: &[Row] = &[
     (
         &[
@@ -172,13 +178,16 @@ const EACH_SORT: &[Row] = &[
     ),
 ];
 
+// `write_show` and `show` show texts as strings, ints and bools as they are; slots in the order of first receipts.
 #[test]
 fn shows_values_of_each_sort(rt: HostRuntime) -> Result<(), Fail> {
     plays_anew(rt.alloc(), SORTS, EACH_SORT)
 }
 
+// a tells b to go on, and gives it a text, or to stop; again and again.
 const CHOICES: &str = "roles a b ; rec X . a -> b { go : a -> b : text . X , stop : end }";
 
+// The label `go` and the text `go`.
 const LABELS: &[Row] = &[
     (
         &[],
@@ -194,6 +203,7 @@ const LABELS: &[Row] = &[
     ),
 ];
 
+// In a queue a label is an object, so it differs from a text; in a step the verb tells them apart.
 #[test]
 fn tells_labels_from_texts(rt: HostRuntime) -> Result<(), Fail> {
     plays_anew(rt.alloc(), CHOICES, LABELS)
@@ -237,6 +247,7 @@ fn eight_names(alloc: Global) -> Result<Roles, Fail> {
     Ok(Roles::of(alloc, &names)?)
 }
 
+// The types of the eight.
 fn eight_types(alloc: Global) -> Result<Vec<Local>, Fail> {
     let mut types = Vec::new(alloc);
     for actions in PARTS {
@@ -245,6 +256,7 @@ fn eight_types(alloc: Global) -> Result<Vec<Local>, Fail> {
     Ok(types)
 }
 
+// Queues stand in the order of senders and then of receivers, whichever step came first.
 const EIGHT: &[Row] = &[(
     &[
         "c send b 3",
@@ -256,6 +268,7 @@ const EIGHT: &[Row] = &[(
     r#"{"history":[[1,"c","send","b",3],[2,"a","send","h",1],[3,"a","send","c",2],[4,"g","mark","m"],[5,"b","send","a",4]],"queues":[["a","c",[2]],["a","h",[1]],["b","a",[4]],["c","b",[3]]],"roles":[{"expects":"end","past":[2,3],"role":"a","store":[]},{"expects":"end","past":[5],"role":"b","store":[]},{"expects":"end","past":[1],"role":"c","store":[]},{"expects":"end","past":[],"role":"d","store":[]},{"expects":"end","past":[],"role":"e","store":[]},{"expects":"end","past":[],"role":"f","store":[]},{"expects":"end","past":[4],"role":"g","store":[]},{"expects":"recv a bool","past":[],"role":"h","store":[]}]}"#,
 )];
 
+// `write_show` and `show` of the most roles, 8: each has its row, also if it did nothing, and queues have their order.
 #[test]
 fn shows_eight_roles(rt: HostRuntime) -> Result<(), Fail> {
     let alloc = rt.alloc();

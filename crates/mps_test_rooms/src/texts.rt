@@ -1,4 +1,4 @@
-//! Protocols, commands and answers as text.
+//! What the tests of this crate share: protocols, commands and answers as text.
 ghost use Rattle.std.specs.Prelude.{◌≡◌, length, IfOk};
 ghost use Rattle.mps_machine.specs.Machine.{initial};
 

@@ -1,4 +1,5 @@
-//! mps_session: sessions with loops and choices, which types open one, and 100,000 numbers.
+//! mps_session: sessions with loops and choices, which types open one, and that a session gives out 100,000 numbers.
+//! Rows are a `Line` of `steps` each: a role is told the new step's number and what it took (`-`: nothing), or why not.
 use crate::steps::Line::{Asks, Count, Keeps, Moves, Step, Undoes, Waits};
 use crate::steps::{A, Ask, B, C, Line, Opening, answer, opened, opens_so, play, role_of};
 use crate::tables::are_labels;
@@ -37,10 +38,12 @@ fn picks(peer: u8, branches: Branches) -> Local {
     Local::Branch { peer, branches }
 }
 
+// An output.
 fn send(rt: &(impl Abort + AllocGlobal), to: u8, sort: Sort, next: Local) -> Local {
     Local::send(rt.alloc(), Role::new(to), sort, next).expect(rt, "memory")
 }
 
+// An input.
 fn recv(rt: &(impl Abort + AllocGlobal), from: u8, sort: Sort, next: Local) -> Local {
     Local::recv(rt.alloc(), Role::new(from), sort, next).expect(rt, "memory")
 }
@@ -104,6 +107,7 @@ fn shows(rt: &impl Abort, session: &Session, place: u8, wanted: &Shown<'_>) -> b
         && are_labels(labels, wanted.3)
 }
 
+// Lines with their answers: two turns of the loop, of which the second ends it. After `go` a has to receive first.
 const ROUND: &[Line] = &[
     Asks(A, Ask::Choose(B, "go"), "1 -"),
     Asks(B, Ask::Pick(A), "2 go"),
@@ -117,12 +121,14 @@ const ROUND: &[Line] = &[
     Keeps(A, "w", "\"good day\""),
 ];
 
+// `Session::forward` follows a type round its loop, and refuses with `Ended` once it is left.
 #[test]
 fn goes_round_a_loop_to_its_end(rt: HostRuntime) {
     let mut session = opened(&rt, looping(&rt));
     play(&rt, &mut session, ROUND);
 }
 
+// The ints of a and b are given and received.
 const RELAY: &[Line] = &[
     Asks(A, Ask::Send(B, "5"), "1 -"),
     Asks(B, Ask::Receive(A, "x"), "2 5"),
@@ -130,7 +136,9 @@ const RELAY: &[Line] = &[
     Asks(C, Ask::Receive(B, "y"), "4 7"),
 ];
 
+// Lines with their answers: each step that the types do not allow is refused by the first reason, and changes nothing.
 const NAMED: &[Line] = &[
+    // before the first step
     Asks(B, Ask::Receive(A, "x"), "NothingQueued"),
     Asks(A, Ask::Receive(B, "x"), "WrongAct"),
     Asks(A, Ask::Send(C, "5"), "WrongPeer"),
@@ -140,6 +148,7 @@ const NAMED: &[Line] = &[
     Asks(B, Ask::Receive(A, "x"), "2 5"),
     Asks(B, Ask::Send(C, "7"), "3 -"),
     Asks(C, Ask::Receive(B, "y"), "4 7"),
+    // where c has to choose, and a to pick
     Asks(C, Ask::Choose(A, "maybe"), "NoLabel"),
     Asks(C, Ask::Choose(B, "maybe"), "WrongPeer"),
     Asks(C, Ask::Send(A, "1"), "WrongAct"),
@@ -147,26 +156,32 @@ const NAMED: &[Line] = &[
     Asks(A, Ask::Pick(B), "WrongPeer"),
     Asks(C, Ask::Choose(A, "ok"), "5 -"),
     Asks(A, Ask::Pick(C), "6 ok"),
+    // at the end, where a mark is still allowed
     Asks(A, Ask::Mark("e"), "7 -"),
     Asks(A, Ask::Send(B, "1"), "Ended"),
     Asks(C, Ask::Choose(A, "ok"), "Ended"),
+    // no refused step took a number
     Count(7, 7),
     Moves("1 5; 2 5; 3 7; 4 7; 5 ok; 6 ok; 7 -; "),
 ];
 
+// `Session::forward` refuses with the violation that applies, the first of them, and a refusal changes nothing.
 #[test]
 fn refuses_by_name(rt: HostRuntime) {
     let mut session = opened(&rt, verdict(&rt));
     play(&rt, &mut session, NAMED);
 }
 
+// What a and b are expected to do at first.
 const FIRST: &[(u8, Shown<'static>)] = &[
     (A, ("send", B, Some(Sort::Int), &[])),
     (B, ("recv", A, Some(Sort::Int), &[])),
 ];
 
+// What each role is expected to do once the ints are received.
 const LAST: &[(u8, Shown<'static>)] = &[
     (A, ("pick", C, None, &["ok", "no"])),
+    // an end has no peer, and a is named for it
     (B, ("end", A, None, &[])),
     (C, ("choose", A, None, &["ok", "no"])),
 ];
@@ -178,6 +193,7 @@ fn shows_each(rt: &impl Abort, session: &Session, wanted: &[(u8, Shown<'_>)]) {
     }
 }
 
+// `Session::expect` shows what the role's type begins with, in a new session and after four steps.
 #[test]
 fn shows_what_a_role_may_do(rt: HostRuntime) {
     let mut session = opened(&rt, verdict(&rt));
@@ -186,54 +202,62 @@ fn shows_what_a_role_may_do(rt: HostRuntime) {
     shows_each(&rt, &session, LAST);
 }
 
+// `Session::expect` shows what the unfolded type begins with: not the loop, but its choice.
 #[test]
 fn shows_what_the_body_of_a_loop_begins_with(rt: HostRuntime) {
     let session = opened(&rt, looping(&rt));
     shows_each(&rt, &session, &[(A, ("choose", B, None, &["go", "stop"]))]);
 }
 
-// What b is answered for what a gave, where the two have these types.
+// Plays the lines where a and b have these types, which don't fit each other.
 fn unfitting(rt: &(impl Abort + AllocGlobal), a: Local, b: Local, lines: &[Line]) {
     let mut session = opened(rt, two(rt, a, b));
     play(rt, &mut session, lines);
 }
 
+// b is to pick, and a value waits.
 const VALUE_FOR_A_LABEL: &[Line] = &[
     Asks(A, Ask::Send(B, "5"), "1 -"),
     Asks(B, Ask::Pick(A), "Mismatch"),
     Waits(A, B, 0, "5"),
 ];
 
+// b is to pick, and a label waits that is none of its branches'.
 const UNKNOWN_LABEL: &[Line] = &[
     Asks(A, Ask::Choose(B, "maybe"), "1 -"),
     Asks(B, Ask::Pick(A), "Mismatch"),
     Waits(A, B, 0, "maybe"),
 ];
 
+// b is to receive, and a label waits.
 const LABEL_FOR_A_VALUE: &[Line] = &[
     Asks(A, Ask::Choose(B, "ok"), "1 -"),
     Asks(B, Ask::Receive(A, "s"), "Mismatch"),
     Waits(A, B, 0, "ok"),
 ];
 
+// A pick of a value is refused as `Mismatch`, and the value still waits. With a protocol's types this can't happen.
 #[test]
 fn leaves_a_value_for_a_label(rt: HostRuntime) {
     let a = send(&rt, B, Sort::Int, Local::End);
     unfitting(&rt, a, picks(A, ok_or_no(&rt)), VALUE_FOR_A_LABEL);
 }
 
+// A pick of a label that no branch has is refused as `Mismatch`, and the label still waits.
 #[test]
 fn leaves_an_unknown_label(rt: HostRuntime) {
     let a = chooses(B, more(&rt, "maybe", Local::End, Branches::NoMore));
     unfitting(&rt, a, picks(A, ok_or_no(&rt)), UNKNOWN_LABEL);
 }
 
+// A receipt of a label is refused as `Mismatch`, and the label still waits.
 #[test]
 fn leaves_a_label_for_a_value(rt: HostRuntime) {
     let b = recv(&rt, A, Sort::Int, Local::End);
     unfitting(&rt, chooses(B, ok_or_no(&rt)), b, LABEL_FOR_A_VALUE);
 }
 
+// 16 labels, as many as a choice may have.
 const LETTERS: &[&str] = &[
     "a", "b", "c", "d", "e", "f", "g", "h", "i", "j", "k", "l", "m", "n", "o", "p",
 ];
@@ -289,6 +313,7 @@ fn plays_among_eight(rt: &(impl Abort + AllocGlobal), lines: &[Line]) {
     play(rt, &mut session, lines);
 }
 
+// The most roles, 8, and the most labels, 16: the first, a middle and the last label are chosen and picked.
 #[test]
 fn chooses_among_sixteen_labels(rt: HostRuntime) {
     for lines in SIXTEEN {
@@ -296,11 +321,13 @@ fn chooses_among_sixteen_labels(rt: HostRuntime) {
     }
 }
 
+// After 100,000 marks of a. What a type does not allow is still refused as that.
 const FULL: &[Line] = &[
     Asks(A, Ask::Send(B, "1"), "WrongAct"),
     Asks(A, Ask::Choose(B, "go"), "Full"),
     Asks(B, Ask::Mark("m"), "Full"),
     Count(100_000, 100_000),
+    // the last step: number 100000, a left the mark m
     Step(99_999, "100000 0 left 0 m"),
     // a step that is taken back gives its number back to nobody
     Undoes(A, 100_000, "Ok"),
@@ -321,6 +348,7 @@ pub(super) fn ask_often(
     }
 }
 
+// A session gives out 100,000 numbers (`MAX_NUMBERS`), and refuses further steps as `Full`, also after an undo.
 #[test]
 fn gives_out_a_hundred_thousand_numbers(rt: HostRuntime) {
     let mut session = opened(&rt, looping(&rt));
@@ -379,6 +407,7 @@ fn is_filled(rt: &(impl Abort + AllocGlobal), session: &Session, k: i64) -> bool
     is_int(session.slot(role, &slot_name(rt, k)), k)
 }
 
+// `Session::slot` finds each of 1,000 slots of a role by its name, and none of a name that isn't bound.
 #[test]
 fn finds_each_of_many_slots(rt: HostRuntime) {
     let mut session = opened(&rt, giving(&rt));
@@ -422,6 +451,8 @@ const PEERS: &[(u8, Opening)] = &[
     (C, Opening::BadPeer(A)),
 ];
 
+// A bad peer is told before the size of the type, however large that is: so many inputs, or branches, as would run the
+// stack out where a function calls itself for each.
 #[test]
 fn refuses_types_over_the_limits(rt: HostRuntime) {
     for (last, wanted) in PEERS {
@@ -453,6 +484,7 @@ fn with_nodes(rt: &(impl Abort + AllocGlobal), count: usize) -> Local {
     chooses(B, branches)
 }
 
+// `Session::open` takes a type of 256 nodes, the most, and names the fault of one more.
 #[test]
 fn opens_types_of_256_nodes(rt: HostRuntime) {
     opens_with_an_end(&rt, with_nodes(&rt, 256), Opening::Opened);
@@ -465,6 +497,7 @@ fn opens_of(rt: &(impl Abort + AllocGlobal), a: Local, b: Local, wanted: Opening
     opens_so(rt, three(rt, a, b, Local::End), wanted);
 }
 
+// `Session::open` tells a type's fault, and whose it is. Two kinds are tried here, all in mps_test_texts/local_faults.
 #[test]
 fn refuses_faulty_types(rt: HostRuntime) {
     let fault = Opening::Fault(B, LocalFault::Unguarded);
@@ -473,7 +506,8 @@ fn refuses_faulty_types(rt: HostRuntime) {
     opens_of(&rt, Local::End, chooses(A, Branches::NoMore), fault);
 }
 
-// Of two faults the least role's is told.
+// Of two roles with a faulty type the least is told. a has 64 inputs and the end, 65 levels, one too many. Then it has
+// one less, and only b has a fault, a variable that no `rec` binds.
 #[test]
 fn names_the_least_role(rt: HostRuntime) {
     let first = Opening::Fault(A, LocalFault::TooDeep);
@@ -482,6 +516,7 @@ fn names_the_least_role(rt: HostRuntime) {
     opens_of(&rt, long(&rt, 62, B, B), again(&rt), second);
 }
 
+// A bad peer is told before a fault, though the fault is a lesser role's: of three roles none is at place 3.
 #[test]
 fn tells_strangers_before_faults(rt: HostRuntime) {
     let stranger = long(&rt, 0, A, 3);

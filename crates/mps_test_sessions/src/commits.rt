@@ -1,4 +1,5 @@
 //! mps_session: a commit stays, and so does all that it depends on.
+//! Rows are a `Line` of `steps` each: a role is told the new step's number and what it took (`-`: nothing), or why not.
 use crate::choices::giving;
 use crate::rollbacks::TWO_PAIRS;
 use crate::steps::Line::{Asks, Count, GoesBack, Keeps, Moves, RollsBack, Step, Undoes, Waits};
@@ -15,15 +16,18 @@ const SETTLED: &[Line] = &[
     Asks(A, Ask::Send(B, "1"), "2 -"),
     Asks(B, Ask::Receive(A, "x"), "3 1"),
     Asks(B, Ask::Commit, "4 -"),
+    // what would take back the commit 4, or is needed for it
     GoesBack(A, "m", "Final 4"),
     RollsBack(A, 1, "Final 4"),
     Undoes(A, 2, "Needed 3"),
     Undoes(B, 4, "Final 4"),
     Undoes(B, 3, "Needed 4"),
     Undoes(A, 4, "NotYours"),
+    // of the commits 4 and 5 the least is named
     Asks(A, Ask::Commit, "5 -"),
     RollsBack(A, 1, "Final 4"),
     Count(5, 5),
+    // the fourth step: number 4, b settled
     Step(3, "4 1 settled 1 -"),
     Moves("1 -; 2 1; 3 1; 4 -; 5 -; "),
     Keeps(B, "x", "1"),
@@ -34,14 +38,17 @@ const AFTER_A_COMMIT: &[Line] = &[
     Asks(A, Ask::Send(B, "1"), "1 -"),
     Asks(A, Ask::Commit, "2 -"),
     Asks(A, Ask::Mark("m"), "3 -"),
+    // no step of a follows the mark
     GoesBack(A, "m", ""),
     Asks(A, Ask::Send(B, "2"), "4 -"),
     Asks(B, Ask::Receive(A, "x"), "5 1"),
     Asks(B, Ask::Receive(A, "y"), "6 2"),
+    // the second int is taken back, and the first one received anew
     GoesBack(A, "m", "6 4 "),
     Waits(A, B, 0, "-"),
     RollsBack(B, 5, "5 "),
     Waits(A, B, 0, "1"),
+    // the commit itself stays, and what it depends on
     RollsBack(A, 1, "Final 2"),
     Undoes(A, 3, "Ok"),
     Undoes(A, 2, "Final 2"),
@@ -71,6 +78,7 @@ pub(super) fn play_giving(rt: &(impl Abort + AllocGlobal), lines: &[Line]) {
     play(rt, &mut session, lines);
 }
 
+// `rollback`, `back` and `undo` refuse with `Final` to take back a commit, and name the least. Other steps go as ever.
 #[test]
 fn settles_what_was_given(rt: HostRuntime) {
     play_giving(&rt, SETTLED);
@@ -95,12 +103,14 @@ const AT_THE_END: &[Line] = &[
     RollsBack(A, 1, "Final 2"),
 ];
 
+// A commit makes final what it depends on, and nothing else. A role may commit when its part has ended.
 #[test]
 fn commits_are_the_roles_own(rt: HostRuntime) {
     play_anew(&rt, TWO_PAIRS, A_STRANGERS);
     play_anew(&rt, TWO_PAIRS, AT_THE_END);
 }
 
+// c commits at the end of the relay.
 const RELAYED: &[Line] = &[
     Asks(A, Ask::Send(B, "5"), "1 -"),
     Asks(B, Ask::Receive(A, "x"), "2 5"),
@@ -109,6 +119,7 @@ const RELAYED: &[Line] = &[
     Asks(C, Ask::Commit, "5 -"),
 ];
 
+// All five steps are still there, and each rollback that reaches step 4 is refused.
 const STILL_RELAYED: &[Line] = &[
     Count(5, 5),
     RollsBack(A, 1, "Final 5"),
@@ -123,7 +134,7 @@ fn would_be_final(rt: &impl Abort, session: &mut Session) -> bool {
     session.would(role, &Command::Rollback(StepId::new(1))) == Err(Refusal::Final { by })
 }
 
-// `would` names the commit, and marks nothing: the rollback is refused as before.
+// `Session::would` names the commit, and marks nothing: the rollback is refused as before.
 #[test]
 fn tells_of_a_commit_beforehand(rt: HostRuntime) {
     let mut session = opened(&rt, types(&rt, A_TO_B_TO_C));

@@ -97,6 +97,7 @@ fn are_same(
 #[derive(Clone, Copy)]
 struct Row(&'static [Turn], &'static [Turn], bool);
 
+// Two marks and a commit, of any role; ints and texts of a, b's receipt, and what c and d do beside them.
 const MARK_M: Ask = Ask::Mark("m");
 
 const MARK_K: Ask = Ask::Mark("k");
@@ -181,6 +182,7 @@ fn is_compared(rt: &(impl Abort + AllocGlobal), protocol: &Protocol, row: &Row) 
     are_same(rt, protocol, row.0, row.1) == row.2 && are_same(rt, protocol, row.1, row.0) == row.2
 }
 
+// `same` is true exactly where each role did the same, whatever the order across roles and the numbers.
 #[test]
 fn compares_what_each_role_did(rt: HostRuntime) {
     let protocol = two_pairs(&rt);
@@ -252,7 +254,8 @@ fn takes_back_at_last(
     are_back(answer)
 }
 
-// The room for the answer is the last request for memory: the README of mps_session says how a run refuses it.
+// a rolls step 1 back, with 3 and 4, which depend on it. Memory for the answer is requested last: where a run refuses
+// it, as the README of mps_session says, nothing may have changed.
 #[test]
 fn rolls_back_after_a_refusal(rt: HostRuntime) {
     let turns = [SEND_5, BESIDE, TAKE, SAY_X, TAKE_BESIDE];
@@ -274,6 +277,7 @@ fn refused(
     refusal
 }
 
+// b's commit, step 3, depends on a's step 1: the rollback is refused, and the session is as if it was never asked.
 #[test]
 fn a_refused_rollback_changes_nothing(rt: HostRuntime) {
     let turns = [SEND_5, TAKE, Does(B, COMMIT), SAY_X];

@@ -128,14 +128,19 @@ fn undo(rt: &(impl Abort + AllocGlobal), arena: &mut Arena, number: u64) -> Vec<
     gone
 }
 
+// Each step depends on the one before.
 const CHAIN: &[Deed] = &[Gives(A, B), Takes(B, A), Gives(B, C), Takes(C, B)];
 
+// b takes the first of two messages: steps 2 and 3 depend on 1, and nothing on 2 or 3.
 const TWO_SENDS: &[Deed] = &[Gives(A, B), Gives(A, B), Takes(B, A)];
 
+// Both the receipt 2 and the send 3 depend on 1.
 const SENT_AGAIN: &[Deed] = &[Gives(A, B), Takes(B, A), Gives(A, B)];
 
+// Two pairs that have nothing to do with each other: 3 depends on 1, 4 on 2.
 const TWO_PAIRS: &[Deed] = &[Gives(A, B), Gives(C, H), Takes(B, A), Takes(H, C)];
 
+// Marks are steps of their role: 4 depends on 2 and on the mark 3, and h's mark 6 on nothing.
 const WITH_MARKS: &[Deed] = &[
     Marks(A),
     Gives(A, B),
@@ -159,17 +164,22 @@ const TWO_WAYS: &[Deed] = &[
 
 // What was done, a step, and the least step that depends on it; 0 where there is none.
 const LEAST: &[(&[Deed], u64, u64)] = &[
+    // the receipt, the next step of the role, or none
     (CHAIN, 1, 2),
     (CHAIN, 2, 3),
     (CHAIN, 4, 0),
+    // the next send comes before the receipt, or the receipt before the next send
     (TWO_SENDS, 1, 2),
     (TWO_SENDS, 2, 0),
     (SENT_AGAIN, 1, 2),
+    // not step 3, which is of the other pair
     (TWO_PAIRS, 2, 4),
+    // marks, as steps of their roles
     (WITH_MARKS, 1, 2),
     (WITH_MARKS, 2, 4),
     (WITH_MARKS, 3, 4),
     (WITH_MARKS, 6, 0),
+    // not step 3, which received step 1
     (TWO_WAYS, 2, 4),
 ];
 
@@ -182,6 +192,7 @@ fn least_after(rt: &(impl Abort + AllocGlobal), deeds: &[Deed], number: u64) -> 
     }
 }
 
+// `least_dependent` finds the least number of another step that depends on this one.
 #[test]
 fn finds_the_least_dependent(rt: HostRuntime) {
     for (deeds, number, want) in LEAST {
@@ -191,15 +202,20 @@ fn finds_the_least_dependent(rt: HostRuntime) {
 
 // What was done, a step, and the steps that go where it is taken back.
 const REMOVED: &[(&[Deed], u64, &[u64])] = &[
+    // a step and all behind it
     (CHAIN, 1, &[4, 3, 2, 1]),
     (CHAIN, 2, &[4, 3, 2]),
     (CHAIN, 4, &[4]),
+    // a send that wasn't received goes alone
     (TWO_SENDS, 1, &[3, 2, 1]),
     (TWO_SENDS, 2, &[2]),
+    // the other pair stays
     (TWO_PAIRS, 1, &[3, 1]),
     (TWO_PAIRS, 2, &[4, 2]),
+    // b's mark 3 stays, or goes with what b did after it; h's mark stays
     (WITH_MARKS, 1, &[5, 4, 2, 1]),
     (WITH_MARKS, 3, &[5, 4, 3]),
+    // by c's way alone; by b's, and h's step after it
     (TWO_WAYS, 2, &[8, 6, 4, 2]),
     (TWO_WAYS, 3, &[8, 7, 5, 3]),
 ];
@@ -212,6 +228,7 @@ fn removes(rt: &(impl Abort + AllocGlobal), deeds: &[Deed], number: u64, want: &
     assert_eq!(rt; arena.len(), deeds.len().saturating_sub(gone.len()));
 }
 
+// `mark_from` marks just the step and all that depend on it. `newest_marked` gives them so that each can be removed.
 #[test]
 fn removes_what_depends_on_a_step(rt: HostRuntime) {
     for (deeds, number, want) in REMOVED {
@@ -240,6 +257,7 @@ fn gone_unmarked(
     undo(rt, &mut arena, second)
 }
 
+// `unmark` takes all marks off: afterwards just the second step and what depends on it are marked and go.
 #[test]
 fn leaves_no_mark(rt: HostRuntime) {
     for (deeds, first, second, want) in UNMARKED {
@@ -248,6 +266,7 @@ fn leaves_no_mark(rt: HostRuntime) {
     }
 }
 
+// Commits of all, before, between and after what a gives b and b gives h. Commit 1 of c depends on nothing.
 const SETTLED: &[Deed] = &[
     Commits(C),
     Gives(A, B),
@@ -261,7 +280,7 @@ const SETTLED: &[Deed] = &[
     Commits(A),
 ];
 
-// The least commit among the step and all that depend on it, and whether no mark is left; 0 where there is none.
+// The least commit among the step and all that depend on it; 0 where there is none. Marks are set for it, and unset.
 fn least_from(rt: &(impl Abort + AllocGlobal), arena: &mut Arena, number: u64) -> u64
     requires none { marked_keys arena.old.keyed_steps ≡ [] }
     ensures none { marked_keys arena.new.keyed_steps ≡ [] }
@@ -278,24 +297,31 @@ fn least_from(rt: &(impl Abort + AllocGlobal), arena: &mut Arena, number: u64) -
 
 // What was done, a step, and the least commit among it and what depends on it; 0 where there is none.
 const COMMITS: &[(&[Deed], u64, u64)] = &[
+    // no commit
     (CHAIN, 1, 0),
     (WITH_MARKS, 1, 0),
+    // the commit itself, on which nothing depends
     (SETTLED, 1, 1),
+    // b's first commit, after its receipt
     (SETTLED, 2, 5),
     (SETTLED, 3, 5),
+    // the commit itself, before h's second one
     (SETTLED, 4, 4),
+    // what comes after b's second send: its next commit, and then h's
     (SETTLED, 6, 7),
     (SETTLED, 8, 9),
     (SETTLED, 9, 9),
+    // a's commit itself
     (SETTLED, 10, 10),
 ];
 
-// The least commit after these deeds.
+// The same after these deeds.
 fn least_commit(rt: &(impl Abort + AllocGlobal), deeds: &[Deed], number: u64) -> u64 {
     let mut arena = play(rt, deeds);
     least_from(rt, &mut arena, number)
 }
 
+// `least_final` finds the least number of a marked commit, where a step and all that depend on it are marked.
 #[test]
 fn finds_the_least_commit(rt: HostRuntime) {
     for (deeds, number, want) in COMMITS {
@@ -318,31 +344,37 @@ fn marks_at(rt: &(impl Abort + AllocGlobal), marked: u64, steps: u64) {
     assert_eq!(rt; mark_from(&mut arena, from) as u64, marked);
 }
 
+// `mark_from` marks 10 steps, whatever the others are. `bench/marks` counts what it costs among 10,000.
 #[test]
 fn marks_10_of_10_000(rt: HostRuntime) {
     marks_at(&rt, 10, 10_000);
 }
 
+// `mark_from` marks 100 steps, whatever the others are. `bench/marks` counts what it costs among 10,000.
 #[test]
 fn marks_100_of_10_000(rt: HostRuntime) {
     marks_at(&rt, 100, 10_000);
 }
 
+// `mark_from` marks 1,000 steps, whatever the others are. `bench/marks` counts what it costs among 10,000.
 #[test]
 fn marks_1_000_of_10_000(rt: HostRuntime) {
     marks_at(&rt, 1_000, 10_000);
 }
 
+// `mark_from` marks 10 steps, whatever the others are. `bench/marks` counts what it costs among 100,000.
 #[test]
 fn marks_10_of_100_000(rt: HostRuntime) {
     marks_at(&rt, 10, 100_000);
 }
 
+// `mark_from` marks 100 steps, whatever the others are. `bench/marks` counts what it costs among 100,000.
 #[test]
 fn marks_100_of_100_000(rt: HostRuntime) {
     marks_at(&rt, 100, 100_000);
 }
 
+// `mark_from` marks 1,000 steps, whatever the others are. `bench/marks` counts what it costs among 100,000.
 #[test]
 fn marks_1_000_of_100_000(rt: HostRuntime) {
     marks_at(&rt, 1_000, 100_000);

@@ -97,11 +97,13 @@ fn relayed(rt: &(impl Abort + AllocGlobal)) -> Session {
     session
 }
 
+// `Session::attempt` gives the gist of each step, which `relayed` compares: receipts 3 and 5 name the sends 2 and 4.
 #[test]
 fn names_the_send_that_a_receipt_took(rt: HostRuntime) {
     relayed(&rt);
 }
 
+// The gist of an undo is the number of the step, 5.
 #[test]
 fn names_an_undone_step(rt: HostRuntime) {
     let mut session = relayed(&rt);
@@ -109,6 +111,7 @@ fn names_an_undone_step(rt: HostRuntime) {
     assert_eq!(rt; found, Ok(Numbers::Undid(5)));
 }
 
+// The gist of a rollback lists the steps, newest first: here 5, 4 and 3, so three of which the first is 5.
 #[test]
 fn lists_what_a_rollback_took(rt: HostRuntime) {
     let mut session = relayed(&rt);
@@ -116,6 +119,7 @@ fn lists_what_a_rollback_took(rt: HostRuntime) {
     assert_eq!(rt; found, Ok(Numbers::TookBack(3, 5)));
 }
 
+// The gist of a return lists the steps, newest first: here 5, 4, 3 and 2, since the mark 1 stays.
 #[test]
 fn lists_what_a_return_to_a_mark_took(rt: HostRuntime) {
     let mut session = relayed(&rt);
@@ -123,6 +127,7 @@ fn lists_what_a_return_to_a_mark_took(rt: HostRuntime) {
     assert_eq!(rt; found, Ok(Numbers::TookBack(4, 5)));
 }
 
+// `Session::attempt` gives no gist of a refused command: step 3 received what step 2 sent.
 #[test]
 fn refuses_what_another_step_needs(rt: HostRuntime) {
     let mut session = relayed(&rt);

@@ -1,4 +1,5 @@
-//! Tests of tables, verdicts, logs and sessions, over what their crates make public.
+//! Tests of mps_table, mps_monitor, mps_arena, mps_queues, mps_links, mps_stores, mps_log and mps_session, over what
+//! these make public.
 #![tactic(auto)]
 
 #[cfg(test)]

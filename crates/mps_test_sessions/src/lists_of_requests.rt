@@ -58,6 +58,7 @@ fn shown(rt: &(impl Abort + AllocGlobal), answer: Answer) -> String {
     }
 }
 
+// What each role asks for, and is told: a step's number and what it took, the steps taken back, or why not.
 const TEN_AND_MORE: &[Row] = &[
     (
         B,
@@ -83,6 +84,7 @@ const TEN_AND_MORE: &[Row] = &[
     (A, Wish::Rollback(6), "Final 7"),
 ];
 
+// What survives: a's mark 1, its send 6, which waits, and its commit 7. The slots of the steps taken back are empty.
 const LEFT: &[Line] = &[
     Moves("1 -; 6 6; 7 -; "),
     Count(3, 7),
@@ -104,6 +106,7 @@ fn are_answered(rt: &(impl Abort + AllocGlobal), answers: Vec<Answer>, rows: &[R
     }
 }
 
+// `Session::serve_all` answers each request of a list as it is due after those before it, and leaves what they lead to.
 #[test]
 fn serves_a_list(rt: HostRuntime) {
     let mut session = opened(&rt, types(&rt, A_TO_B_TO_C));
@@ -142,8 +145,10 @@ fn marks_and_undos(
     all
 }
 
+// No step, but the numbers of 500 marks.
 const MARKED_AND_UNDONE: &[Line] = &[Count(0, 500), Moves("")];
 
+// 500 marks, each undone by the next request: a list may be long.
 #[test]
 fn serves_a_thousand_requests(rt: HostRuntime) {
     let mut session = opened(&rt, types(&rt, A_TO_B_TO_C));

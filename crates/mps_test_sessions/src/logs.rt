@@ -341,6 +341,7 @@ fn none_may_go(rt: &impl Abort, log: &Log, ids: &[u64]) {
     }
 }
 
+// Nine steps of a, b and c; their nodes stand for any. Only b's second receipt finds its slot bound, by step 3.
 const WORKED: &[Row] = &[
     Row(A, Send(B, 10), 0, 0),
     Row(A, Send(B, 20), 1, 0),
@@ -353,6 +354,7 @@ const WORKED: &[Row] = &[
     Row(A, Send(B, 40), 3, 0),
 ];
 
+// Each number, and what its step is linked to, in the order of `links`; 0 is no link.
 const WORKED_LINKS: &[(u64, Option<[u64; 8]>)] = &[
     (0, None),
     (1, Some([2, 0, 2, 0, 2, 0, 3, 0])),
@@ -367,6 +369,7 @@ const WORKED_LINKS: &[(u64, Option<[u64; 8]>)] = &[
     (10, None),
 ];
 
+// The same after steps 7, 9, 6 and 8 are taken out, in this order.
 const LEFT_LINKS: &[(u64, Option<[u64; 8]>)] = &[
     (1, Some([2, 0, 2, 0, 2, 0, 3, 0])),
     (2, Some([3, 1, 4, 1, 0, 1, 0, 0])),
@@ -379,8 +382,10 @@ const LEFT_LINKS: &[(u64, Option<[u64; 8]>)] = &[
     (9, None),
 ];
 
+// Two steps more, which get the next numbers, 10 and 11.
 const MORE: &[Row] = &[Row(B, Receive(A, Word::Y), 6, 0), Row(A, Send(B, 50), 3, 0)];
 
+// The links then.
 const MORE_LINKS: &[(u64, Option<[u64; 8]>)] = &[
     (1, Some([2, 0, 2, 0, 2, 0, 3, 0])),
     (2, Some([3, 1, 4, 1, 11, 1, 10, 0])),
@@ -397,7 +402,7 @@ fn empty(rt: &(impl Abort + AllocGlobal)) -> Log {
     Log::new(rt.alloc()).expect(rt, "memory")
 }
 
-// Whether the arena's ends are these, with how many steps there are and how many numbers.
+// Whether these are the oldest and the newest step, the newest of a, b, c and h, and the newest sends of pairs.
 fn has_ends(arena: &Arena, ends: [u64; 2], of_roles: [u64; 4], sends: [u64; 5]) -> bool {
     outer(arena) == ends && last_of_roles(arena) == of_roles && last_sends(arena) == sends
 }
@@ -430,6 +435,7 @@ fn is_as_more(rt: &impl Abort, log: &Log) {
     assert_eq!(rt; (arena.len(), arena.issued()), (7, 11));
 }
 
+// Steps with links are an ordered list: as steps come and go, look-ups of mps_arena give what was worked out by hand.
 #[test]
 fn links_of_a_worked_history(rt: HostRuntime) {
     let mut log = empty(&rt);
@@ -452,6 +458,7 @@ fn keeps(rt: &impl Abort, log: &Log, place: u8, slot: Word, given: Option<Deed>)
     is_kept(log.value(role(place), &name(rt, slot)), given)
 }
 
+// `Log::message` gives what waits in the order of the sends, 0 first. Each receipt takes the first, and binds its slot.
 #[test]
 fn a_thousand_messages_in_order(rt: HostRuntime) {
     let mut log = empty(&rt);
@@ -466,9 +473,11 @@ fn a_thousand_messages_in_order(rt: HostRuntime) {
         assert!(rt; keeps(&rt, &log, B, Word::X, Some(Send(B, n))), "value {n}");
     }
     assert!(rt; log.message(role(A), role(B), 0).is_none());
+    // of each message a send and a receipt
     assert_eq!(rt; (log.steps().len(), log.steps().issued()), (2000, 2000));
 }
 
+// Three messages, an int, a text and an int, and three receipts into one slot, each bound before by the one before it.
 const THRICE: &[Row] = &[
     Row(A, Send(B, 1), 0, 0),
     Row(A, Tell(B, Word::No), 0, 0),
@@ -488,6 +497,7 @@ fn gives_back(rt: &impl Abort, log: &mut Log, id: u64, message: Option<Deed>, ke
     assert!(rt; keeps(rt, log, B, Word::X, kept), "after {id}");
 }
 
+// `Log::remove` of the receipts, 6 to 4: the message waits again, in front, and the slot has what it had before.
 #[test]
 fn a_slot_bound_thrice(rt: HostRuntime) {
     let mut log = empty(&rt);
@@ -499,6 +509,7 @@ fn a_slot_bound_thrice(rt: HostRuntime) {
     gives_back(&rt, &mut log, 4, Some(Send(B, 1)), None);
 }
 
+// Texts, one without a byte, and labels, which are given and then taken.
 const SAID: &[Row] = &[
     Row(A, Tell(B, Word::SoBeIt), 0, 0),
     Row(A, Choose(B, Word::Ok), 0, 0),
@@ -510,6 +521,7 @@ const SAID: &[Row] = &[
     Row(B, Receive(A, Word::Z), 0, 0),
 ];
 
+// `Log::message` and `Log::value` give texts and labels as they were given. A label in a slot, here in z, is no value.
 #[test]
 fn texts_and_labels(rt: HostRuntime) {
     let mut log = empty(&rt);
@@ -547,6 +559,7 @@ fn crosses(rt: &(impl Abort + AllocGlobal), log: &mut Log, from: u8, to: u8) {
     );
 }
 
+// Each of the 64 ordered pairs of 8 roles, a role with itself too, has a queue of its own.
 #[test]
 fn each_pair_of_eight_roles(rt: HostRuntime) {
     let mut log = empty(&rt);
@@ -561,6 +574,7 @@ fn each_pair_of_eight_roles(rt: HostRuntime) {
     assert_eq!(rt; log.steps().len(), 128);
 }
 
+// 100 steps come and go, one by one: each is kept at the same place (its key), and each has a number of its own.
 #[test]
 fn numbers_are_not_used_again(rt: HostRuntime) {
     let mut log = empty(&rt);
@@ -595,6 +609,7 @@ fn is_marked(arena: &Arena, key: Key) -> bool {
     matches!(found(arena, key), Some((_, _, true)))
 }
 
+// `Arena::set_mark` marks one step, as a rollback marks what it takes. These are not the marks that roles leave.
 #[test]
 fn marks_come_and_go(rt: HostRuntime) {
     let mut arena = Arena::new(rt.alloc());

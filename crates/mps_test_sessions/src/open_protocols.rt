@@ -1,4 +1,5 @@
 //! mps_session: a protocol that has no fault, and types for all roles, gives a session; else its first fault is named.
+//! Rows are a `Line` of `steps` each: a role is told the new step's number and what it took (`-`: nothing), or why not.
 use crate::steps::Line::Asks;
 use crate::steps::{A, Ask, B, C, Line, play};
 use crate::words::{name, variable};
@@ -14,6 +15,7 @@ pub(super) fn int(rt: &(impl Abort + AllocGlobal), from: &str, to: &str, next: G
     Global::message(rt.alloc(), from, to, Sort::Int, next).expect(rt, "memory")
 }
 
+// The loop of the variable.
 fn looped(rt: &(impl Abort + AllocGlobal), text: &str, body: Global) -> Global {
     Global::rec(rt.alloc(), variable(rt, text), body).expect(rt, "memory")
 }
@@ -92,6 +94,7 @@ fn relay(rt: &(impl Abort + AllocGlobal)) -> Global {
     int(rt, "a", "b", int(rt, "b", "c", told))
 }
 
+// Each role does its part.
 const RELAYED: &[Line] = &[
     Asks(A, Ask::Send(B, "5"), "1 -"),
     Asks(B, Ask::Receive(A, "x"), "2 5"),
@@ -101,6 +104,7 @@ const RELAYED: &[Line] = &[
     Asks(A, Ask::Pick(C), "6 ok"),
 ];
 
+// `open_protocol` gives a new session in which each role's type is its projection: it can do its part to the end.
 #[test]
 fn opens_a_protocol(rt: HostRuntime) {
     plays(&rt, &["a", "b", "c"], relay(&rt), RELAYED);
@@ -115,6 +119,7 @@ fn looping(rt: &(impl Abort + AllocGlobal)) -> Global {
 
 const EIGHT: &[&str] = &["a", "b", "c", "d", "e", "f", "g", "h"];
 
+// A turn of the loop and its end, between a and h, the role at place 7. b takes no part, so it has ended at once.
 const LOOPED: &[Line] = &[
     Asks(A, Ask::Choose(7, "go"), "1 -"),
     Asks(7, Ask::Pick(A), "2 go"),
@@ -126,6 +131,7 @@ const LOOPED: &[Line] = &[
     Asks(B, Ask::Pick(A), "Ended"),
 ];
 
+// `open_protocol` gives a session of the most roles, 8, of which six take no part in the loop of the others.
 #[test]
 fn opens_a_loop_of_eight_roles(rt: HostRuntime) {
     plays(&rt, EIGHT, looping(&rt), LOOPED);
@@ -151,13 +157,15 @@ fn told_behind_two(rt: &(impl Abort + AllocGlobal)) -> Global {
     choice(rt, "a", "b", &["r", "l"], inner)
 }
 
-// The branches differ for c, which takes no part in the choice: at one, it gets an int.
+// The branches differ for c, which takes no part in the choice: at one, it gets an int. Choices are counted in preorder
+// from 0. Of one that fails in another, the inner one is named.
 #[test]
 fn names_what_cannot_be_merged(rt: HostRuntime) {
     is_unmergeable(&rt, told_to_one(&rt), 0);
     is_unmergeable(&rt, told_behind_two(&rt), 1);
 }
 
+// One label more than a choice may have.
 const SEVENTEEN: &[&str] = &[
     "a", "b", "c", "d", "e", "f", "g", "h", "i", "j", "k", "l", "m", "n", "o", "p", "q",
 ];
@@ -186,6 +194,7 @@ fn faulty(rt: &(impl Abort + AllocGlobal), fault: GlobalFault) -> Global {
     }
 }
 
+// Faults of nodes.
 const FAULTS: &[GlobalFault] = &[
     GlobalFault::UnknownRole,
     GlobalFault::SelfMessage,
@@ -196,6 +205,7 @@ const FAULTS: &[GlobalFault] = &[
     GlobalFault::Unguarded,
 ];
 
+// `open_protocol` names a protocol's fault, here seven of the twelve. `protocols` of mps_test_texts has all of them.
 #[test]
 fn names_the_fault(rt: HostRuntime) {
     for wanted in FAULTS {
@@ -204,6 +214,8 @@ fn names_the_fault(rt: HostRuntime) {
     }
 }
 
+// Of several faults the first is named: an unknown role before a message to itself and a variable without a `rec`. Two
+// roles of one name are a fault of the roles.
 #[test]
 fn names_the_first_fault(rt: HostRuntime) {
     let unknown = ProtocolFault::Global(GlobalFault::UnknownRole);

@@ -1,4 +1,5 @@
 //! mps_session: a rollback or a return to a mark takes back what depends on the step, and nothing else.
+//! Rows are a `Line` of `steps` each: a role is told the new step's number and what it took (`-`: nothing), or why not.
 use crate::choices::{ask_often, giving, looping};
 use crate::commits::play_giving;
 use crate::steps::Line::{Asks, Count, GoesBack, Keeps, Moves, RollsBack, Undoes, Waits};
@@ -11,6 +12,7 @@ use std::process::Abort;
 
 const D: u8 = 3;
 
+// Each step depends on the first. a may send again, and the next number is 5.
 const ALL: &[Line] = &[
     Asks(A, Ask::Send(B, "5"), "1 -"),
     Asks(B, Ask::Receive(A, "x"), "2 5"),
@@ -23,6 +25,7 @@ const ALL: &[Line] = &[
     Asks(A, Ask::Send(B, "6"), "5 -"),
 ];
 
+// From b's receipt on: what a sent waits again, and can be received again.
 const ALL_BUT_THE_SEND: &[Line] = &[
     Asks(A, Ask::Send(B, "5"), "1 -"),
     Asks(B, Ask::Receive(A, "x"), "2 5"),
@@ -34,6 +37,7 @@ const ALL_BUT_THE_SEND: &[Line] = &[
     Asks(B, Ask::Receive(A, "x"), "5 5"),
 ];
 
+// A role takes back its own surviving steps alone.
 const WHOSE: &[Line] = &[
     Asks(A, Ask::Send(B, "5"), "1 -"),
     Asks(B, Ask::Receive(A, "x"), "2 5"),
@@ -50,6 +54,7 @@ const WHOSE: &[Line] = &[
 // What is played where a gives b an int, and b one to c.
 const RELAYED: &[&[Line]] = &[ALL, ALL_BUT_THE_SEND, WHOSE];
 
+// `Session::rollback` removes just the step and all that depend on it, newest first, or says why not.
 #[test]
 fn rolls_back_in_a_relay(rt: HostRuntime) {
     for lines in RELAYED {
@@ -57,6 +62,7 @@ fn rolls_back_in_a_relay(rt: HostRuntime) {
     }
 }
 
+// a gives b an int, and c gives d one.
 pub(super) const TWO_PAIRS: &[&[Row]] = &[
     &[TO_B],
     &[FROM_A],
@@ -64,6 +70,7 @@ pub(super) const TWO_PAIRS: &[&[Row]] = &[
     &[(false, C, Sort::Int)],
 ];
 
+// Steps 2 and 4 of the other pair stay, and d keeps what it received.
 const STRANGERS_STAY: &[Line] = &[
     Asks(A, Ask::Send(B, "1"), "1 -"),
     Asks(C, Ask::Send(D, "2"), "2 -"),
@@ -74,11 +81,13 @@ const STRANGERS_STAY: &[Line] = &[
     Keeps(D, "y", "2"),
 ];
 
+// `Session::rollback` leaves steps that don't depend on the one taken back, also those with numbers in between.
 #[test]
 fn leaves_strangers(rt: HostRuntime) {
     play_anew(&rt, TWO_PAIRS, STRANGERS_STAY);
 }
 
+// A return takes back what follows the mark, which stays, so a second return takes nothing. Marks are a role's own.
 const TO_THE_MARK: &[Line] = &[
     GoesBack(A, "m", "NoMark"),
     Asks(A, Ask::Mark("m"), "1 -"),
@@ -92,6 +101,7 @@ const TO_THE_MARK: &[Line] = &[
     GoesBack(A, "m", "NoMark"),
 ];
 
+// a marks m, k and m again: a return goes to the last surviving mark of the name.
 const TO_THE_LAST_MARK: &[Line] = &[
     Asks(A, Ask::Mark("m"), "1 -"),
     Asks(A, Ask::Send(B, "1"), "2 -"),
@@ -111,6 +121,7 @@ const TO_THE_LAST_MARK: &[Line] = &[
 // What is played where a gives b ints.
 const MARKED: &[&[Line]] = &[TO_THE_MARK, TO_THE_LAST_MARK];
 
+// `Session::back` is the rollback of the role's first step after its last mark of that name, or `NoMark`.
 #[test]
 fn goes_back_to_marks(rt: HostRuntime) {
     for lines in MARKED {
@@ -118,6 +129,7 @@ fn goes_back_to_marks(rt: HostRuntime) {
     }
 }
 
+// b's pick is taken back, and then a's choice, so a may choose the other branch.
 const OTHER_BRANCH: &[Line] = &[
     Asks(A, Ask::Choose(B, "go"), "1 -"),
     Asks(B, Ask::Pick(A), "2 go"),
@@ -131,12 +143,14 @@ const OTHER_BRANCH: &[Line] = &[
     Asks(B, Ask::Pick(A), "Ended"),
 ];
 
+// `Session::rollback` of a pick: the label waits again. Of a choice: another one may be made.
 #[test]
 fn rolls_back_choices(rt: HostRuntime) {
     let mut session = opened(&rt, looping(&rt));
     play(&rt, &mut session, OTHER_BRANCH);
 }
 
+// 500 messages wait, at the places 0 to 499, and 1,000 numbers were given out.
 const HALF: &[Line] = &[
     Waits(A, B, 499, "1"),
     Waits(A, B, 500, "-"),
@@ -161,6 +175,7 @@ fn takes_half_back(rt: &impl Abort, session: &mut Session) -> bool {
     }
 }
 
+// Of 1,000 sends of one role those from 501 on are taken back, newest first.
 #[test]
 fn rolls_back_many_steps(rt: HostRuntime) {
     let mut session = opened(&rt, giving(&rt));

@@ -1,4 +1,5 @@
 //! mps_session: a step is accepted or refused by name, moves its message, binds its slot, and shows in the session.
+//! Rows are values of `Line`: a role is told the new step's number and what it took (`-` for nothing), or why not.
 ghost use Rattle.std.specs.Prelude.{◌<◌, length};
 
 use crate::words::{name, value};
@@ -359,12 +360,14 @@ pub(super) fn play_anew(rt: &(impl Abort + AllocGlobal), rows: &[&[Row]], lines:
     play(rt, &mut session, lines);
 }
 
+// a gives b an int, and then b gives c one.
 pub(super) const A_TO_B_TO_C: &[&[Row]] = &[
     &[(true, B, Sort::Int)],
     &[(false, A, Sort::Int), (true, C, Sort::Int)],
     &[(false, B, Sort::Int)],
 ];
 
+// Each step, and what waits and is kept before and after it; then what the session shows of all four.
 const RELAY: &[Line] = &[
     Waits(A, B, 0, "-"),
     Asks(A, Ask::Send(B, "5"), "1 -"),
@@ -381,6 +384,7 @@ const RELAY: &[Line] = &[
     Asks(C, Ask::Receive(B, "y"), "4 7"),
     Waits(B, C, 0, "-"),
     Count(4, 4),
+    // steps by their places: number, role, deed, peer, and the value or the slot
     Step(0, "1 0 gave 1 5"),
     Step(1, "2 1 took 0 x"),
     Step(2, "3 1 gave 2 7"),
@@ -390,17 +394,19 @@ const RELAY: &[Line] = &[
     Keeps(B, "x", "5"),
     Keeps(C, "y", "7"),
     Keeps(B, "y", "-"),
-    // between others nothing waits
+    // nothing waits between other places, also where no role is
     Waits(0, 3, 0, "-"),
     Waits(3, 1, 0, "-"),
     Waits(255, 255, 0, "-"),
 ];
 
+// `Session::forward` does the steps that the types allow. `message`, `slot`, `step` and `moves` show what they led to.
 #[test]
 fn relays(rt: HostRuntime) {
     play_anew(&rt, A_TO_B_TO_C, RELAY);
 }
 
+// What the types do not allow, before the first step, and then at the end of a's part.
 const REFUSALS: &[Line] = &[
     Asks(B, Ask::Receive(A, "x"), "NothingQueued"),
     Asks(B, Ask::Receive(C, "x"), "WrongPeer"),
@@ -409,6 +415,7 @@ const REFUSALS: &[Line] = &[
     Asks(A, Ask::Send(C, "true"), "WrongPeer"),
     Asks(A, Ask::Send(B, "true"), "WrongSort"),
     Asks(A, Ask::Receive(B, "x"), "WrongAct"),
+    // nothing has changed, and no number was given out
     Count(0, 0),
     Moves(""),
     Waits(A, B, 0, "-"),
@@ -420,13 +427,16 @@ const REFUSALS: &[Line] = &[
     Waits(A, B, 1, "-"),
 ];
 
+// `Session::forward` refuses what a role's type does not allow, by the first reason, and then nothing has changed.
 #[test]
 fn refuses(rt: HostRuntime) {
     play_anew(&rt, A_TO_B_TO_C, REFUSALS);
 }
 
+// a gives an int, and b takes a bool.
 const UNFITTING: &[&[Row]] = &[&[(true, B, Sort::Int)], &[(false, A, Sort::Bool)]];
 
+// The int waits as before, and the slot is empty.
 const MISMATCH: &[Line] = &[
     Asks(A, Ask::Send(B, "5"), "1 -"),
     Asks(B, Ask::Receive(A, "x"), "Mismatch"),
@@ -435,11 +445,13 @@ const MISMATCH: &[Line] = &[
     Count(1, 1),
 ];
 
+// A receipt of a value of another sort is a `Mismatch`, and changes nothing. With a protocol's types this can't happen.
 #[test]
 fn refuses_a_message_of_another_sort(rt: HostRuntime) {
     play_anew(&rt, UNFITTING, MISMATCH);
 }
 
+// a gives b a text, a bool and an int.
 const EACH_SORT: &[&[Row]] = &[
     &[
         (true, B, Sort::Text),
@@ -453,6 +465,7 @@ const EACH_SORT: &[&[Row]] = &[
     ],
 ];
 
+// The values wait, are received and kept as they were given, in their order.
 const VALUES: &[Line] = &[
     Asks(A, Ask::Send(B, "\"good day\""), "1 -"),
     Asks(A, Ask::Send(B, "true"), "2 -"),
@@ -469,17 +482,21 @@ const VALUES: &[Line] = &[
     Step(0, "1 0 gave 1 \"good day\""),
 ];
 
+// `Session::forward` passes values of each sort on unchanged.
 #[test]
 fn carries_values_of_each_sort(rt: HostRuntime) {
     play_anew(&rt, EACH_SORT, VALUES);
 }
 
+// An output of an int to b, and an input of one from a.
 pub(super) const TO_B: Row = (true, B, Sort::Int);
 
 pub(super) const FROM_A: Row = (false, A, Sort::Int);
 
+// a gives b three ints.
 const THREE: &[&[Row]] = &[&[TO_B, TO_B, TO_B], &[FROM_A, FROM_A, FROM_A]];
 
+// b receives into x, y and x again.
 const AGAIN: &[Line] = &[
     Asks(A, Ask::Send(B, "1"), "1 -"),
     Asks(A, Ask::Send(B, "2"), "2 -"),
@@ -499,11 +516,13 @@ const AGAIN: &[Line] = &[
     Moves("1 1; 2 2; 3 3; 4 1; 5 2; 6 3; "),
 ];
 
+// `Session::slot` gives the value of the newest receipt into the slot; other slots and roles keep theirs.
 #[test]
 fn binds_a_slot_again(rt: HostRuntime) {
     play_anew(&rt, THREE, AGAIN);
 }
 
+// Marks before and after a's only act; they move no message.
 const MARKS: &[Line] = &[
     Asks(A, Ask::Mark("m"), "1 -"),
     Asks(A, Ask::Send(B, "5"), "2 -"),
@@ -516,6 +535,7 @@ const MARKS: &[Line] = &[
     Moves("1 -; 2 5; 3 -; "),
 ];
 
+// A mark is a step with a number, always allowed, which leaves type, queues and slots as they are.
 #[test]
 fn marks(rt: HostRuntime) {
     play_anew(&rt, A_TO_B_TO_C, MARKS);
@@ -551,6 +571,7 @@ pub(super) fn opens_so(rt: &(impl Abort + AllocGlobal), types: Vec<Local>, wante
     assert!(rt; fault == fault_of(wanted));
 }
 
+// Types: nothing; an output to a; the same and then an input from c.
 const END: &[Row] = &[];
 
 const TO_A: &[Row] = &[(true, A, Sort::Int)];
@@ -559,16 +580,20 @@ const FROM_C: &[Row] = &[(true, A, Sort::Int), (false, C, Sort::Int)];
 
 // Rows of types, and what comes of opening a session with them.
 const OPENINGS: &[(&[&[Row]], Opening)] = &[
+    // 2 to 8 roles, and one too few or too many
     (&[END], Opening::RoleCount),
     (&[END; 2], Opening::Opened),
     (&[END; 8], Opening::Opened),
     (&[END; 9], Opening::RoleCount),
+    // a names itself; b names c, of two roles; both, of which the least role is told
     (&[TO_A, TO_A], Opening::BadPeer(A)),
     (&[&[TO_B], FROM_C], Opening::BadPeer(B)),
     (&[TO_A, FROM_C], Opening::BadPeer(A)),
+    // of three roles c is one
     (&[&[TO_B], FROM_C, END], Opening::Opened),
 ];
 
+// `Session::open` takes the types of 2 to 8 roles that name other roles alone, and else tells the fault and the role.
 #[test]
 fn opens(rt: HostRuntime) {
     for (rows, wanted) in OPENINGS {

@@ -82,17 +82,21 @@ fn shows(rt: &impl Abort, stores: &Stores, role: Role, keys: &[Key], want: &[(&s
     assert!(rt; stores.get(role, &name(rt, "w")).is_none());
 }
 
+// x and y are bound, x once more, and then each gets back what it had. Keys are named by their places among four.
 const THERE_AND_BACK: &[Row] = &[
     (Ask::Bind("x", 0, None), &[("x", 0)]),
     (Ask::Bind("y", 1, None), &[("x", 0), ("y", 1)]),
     (Ask::Bind("x", 2, Some(0)), &[("x", 2), ("y", 1)]),
+    // w is not bound, so nothing changes
     (Ask::Unbind("w", Some(3)), &[("x", 2), ("y", 1)]),
     (Ask::Unbind("x", Some(0)), &[("x", 0), ("y", 1)]),
     (Ask::Unbind("y", None), &[("x", 0)]),
+    // y is not bound any more, so nothing changes
     (Ask::Unbind("y", None), &[("x", 0)]),
     (Ask::Unbind("x", None), &[]),
 ];
 
+// `Stores::bind` and `unbind` in each of 8 roles: a name bound again keeps its place, and gets back what it had.
 #[test]
 fn goes_there_and_back_in_each_role(rt: HostRuntime) {
     let keys = some_keys(&rt, 4);
@@ -105,6 +109,7 @@ fn goes_there_and_back_in_each_role(rt: HostRuntime) {
     }
 }
 
+// Each of 8 roles binds x to a key of its own, and what role 5 takes back is still bound for 4 and 6.
 #[test]
 fn keeps_each_role_apart(rt: HostRuntime) {
     let keys = some_keys(&rt, 8);
@@ -159,6 +164,7 @@ fn unbinds(rt: &impl Abort, stores: &mut Stores, role: Role, letters: &str)
     is_bound(rt, stores, role, letters, None);
 }
 
+// 22 names of the last role are bound and taken back again, first to last and last to first.
 #[test]
 fn has_room_for_many_slots(rt: HostRuntime) {
     let keys = some_keys(&rt, 22);

@@ -193,17 +193,21 @@ fn shows_each(rt: &(impl Abort + AllocGlobal), t: Local, rows: &[Row]) {
     }
 }
 
+// Ways through the type of the test, and what stands there. A label is named by its place, a value by None.
 const CHAIN: &[Row] = &[
     (&[], Shown::Send(B, Int)),
     (&[None], Shown::Pick(C, &["ok", "no"])),
     (&[None, Some(0)], Shown::End),
     (&[None, Some(1)], Shown::End),
+    // there is no third label, and no label to choose at first
     (&[None, Some(2)], Shown::NoNode),
     (&[Some(0)], Shown::NoNode),
 ];
 
+// Two labels, and the end behind each.
 const OK_OR_NO: &[Arm] = &[("ok", Part::Nothing, "end"), ("no", Part::Nothing, "end")];
 
+// The table of `send b int . pick c { ok : end , no : end }` shows at each node what the type allows there.
 #[test]
 fn shows_a_chain(rt: HostRuntime) {
     let t = in_front(&rt, &Part::Send(B, Int), picks(&rt, C, OK_OR_NO));
@@ -216,6 +220,7 @@ const ROUND: &[Arm] = &[
     ("stop", Part::Nothing, "end"),
 ];
 
+// Ways round the loop, and what stands there.
 const ROUNDS: &[Row] = &[
     (&[], Shown::Choose(B, &["go", "stop"])),
     (&[Some(0)], Shown::Send(B, Int)),
@@ -224,22 +229,27 @@ const ROUNDS: &[Row] = &[
     (&[Some(0), None, Some(0), None, Some(1)], Shown::End),
 ];
 
+// In the table of `rec X . choose b { go : send b int . X , stop : end }` a loop leads back to its choice.
 #[test]
 fn goes_round_a_loop(rt: HostRuntime) {
     let round = chooses(&rt, B, ROUND);
     shows_each(&rt, in_front(&rt, &Part::Rec("X"), round), ROUNDS);
 }
 
+// `rec X . recv a bool . rec Y .`
 const TURN_BEGINS: &[Part] = &[Part::Rec("X"), Part::Recv(A, Bool), Part::Rec("Y")];
 
+// A text for a and then the inner loop again; the outer loop again; the end.
 const TURN: &[Arm] = &[
     ("inner", Part::Send(A, Text), "Y"),
     ("outer", Part::Nothing, "X"),
     ("out", Part::Nothing, "end"),
 ];
 
+// The pick behind both loops.
 const PICK: Shown<'static> = Shown::Pick(A, &["inner", "outer", "out"]);
 
+// Ways through both loops, and what stands there.
 const TURNS: &[Row] = &[
     (&[], Shown::Recv(A, Bool)),
     (&[None], PICK),
@@ -250,15 +260,19 @@ const TURNS: &[Row] = &[
     (&[None, Some(2)], Shown::End),
 ];
 
+// In a table each of two loops, one in the other, leads back to its own beginning.
 #[test]
 fn goes_round_a_loop_in_a_loop(rt: HostRuntime) {
     shows_each(&rt, chain(&rt, TURN_BEGINS, picks(&rt, A, TURN)), TURNS);
 }
 
+// `rec X . rec Y . send b int .`
 const HEADS: &[Part] = &[Part::Rec("X"), Part::Rec("Y"), Part::Send(B, Int)];
 
+// Back to either loop.
 const BACK: &[Arm] = &[("x", Part::Nothing, "X"), ("y", Part::Nothing, "Y")];
 
+// Two `rec`s before one act are no nodes of their own: both variables lead to the first node, the output.
 #[test]
 fn one_node_for_two_loops(rt: HostRuntime) {
     let table = table_of(&rt, &chain(&rt, HEADS, picks(&rt, B, BACK)));
@@ -267,7 +281,7 @@ fn one_node_for_two_loops(rt: HostRuntime) {
     }
 }
 
-// One input of each sort, from each of eight roles in turn, after sixteen labels.
+// Behind each of 16 labels, as many as there may be, one input, each sort and each of eight roles in turn.
 const INPUTS: &[Arm] = &[
     ("a", Part::Recv(A, Int), "end"),
     ("b", Part::Recv(B, Bool), "end"),
@@ -287,10 +301,12 @@ const INPUTS: &[Arm] = &[
     ("p", Part::Recv(H, Int), "end"),
 ];
 
+// The labels.
 const LETTERS: &[&str] = &[
     "a", "b", "c", "d", "e", "f", "g", "h", "i", "j", "k", "l", "m", "n", "o", "p",
 ];
 
+// Ways to the first label, those in the middle and the last, and what stands there. Place 16 is one too many.
 const WIDE: &[Row] = &[
     (&[], Shown::Choose(H, LETTERS)),
     (&[Some(0)], Shown::Recv(A, Int)),
@@ -301,11 +317,13 @@ const WIDE: &[Row] = &[
     (&[Some(16)], Shown::NoNode),
 ];
 
+// The table of a choice of 16 labels shows them in order, and behind each what the type allows there.
 #[test]
 fn shows_a_wide_choice(rt: HostRuntime) {
     shows_each(&rt, chooses(&rt, H, INPUTS), WIDE);
 }
 
+// Behind each label but h one output.
 const OUTPUTS_BEFORE: &[Arm] = &[
     ("a", Part::Send(A, Int), "end"),
     ("b", Part::Send(B, Bool), "end"),
@@ -337,6 +355,7 @@ fn choice_below_another(rt: &(impl Abort + AllocGlobal)) -> Local {
     }
 }
 
+// Ways to labels of both choices, of which the second stands behind h, at place 7.
 const WIDE_BELOW_ANOTHER: &[Row] = &[
     (&[], Shown::Choose(H, LETTERS)),
     (&[Some(0)], Shown::Send(A, Int)),
@@ -352,6 +371,7 @@ const WIDE_BELOW_ANOTHER: &[Row] = &[
     (&[Some(7), Some(16)], Shown::NoNode),
 ];
 
+// The labels of a choice and of one behind its eighth label are kept apart, 16 of each.
 #[test]
 fn shows_a_wide_choice_below_another(rt: HostRuntime) {
     shows_each(&rt, choice_below_another(&rt), WIDE_BELOW_ANOTHER);
@@ -403,7 +423,7 @@ fn walks(rt: &impl Abort, table: &Table, place: usize, shown: &Shown<'_>) {
     assert!(rt; shows(table, &way, &Shown::End));
 }
 
-// The choice and five times 51 nodes make 256.
+// `compile` makes a table of 256 nodes, the most: the choice, and five times 50 inputs and an end. 257 are a fault.
 #[test]
 fn walks_a_type_of_256_nodes_to_its_end(rt: HostRuntime) {
     let table = table_of(&rt, &five_chains(&rt, 50));
@@ -429,6 +449,7 @@ fn wide(rt: &(impl Abort + AllocGlobal), count: usize) -> Local {
     Local::Branch { peer, branches }
 }
 
+// `compile` makes a table of 64 levels (63 outputs and the end), and else names the first fault, of types of any size.
 #[test]
 fn refuses_what_has_a_fault(rt: HostRuntime) {
     let output = Part::Send(B, Int);
@@ -441,7 +462,7 @@ fn refuses_what_has_a_fault(rt: HostRuntime) {
     refuses(&rt, last(&rt, "X"), LocalFault::Unbound);
 }
 
-// The choice comes before what is below it.
+// A label twice, and behind the first a variable without a `rec`: the fault of the choice comes first.
 const DOUBLE: &[Arm] = &[("l", Part::Nothing, "X"), ("l", Part::Nothing, "end")];
 
 // One label more than a choice may have.
@@ -465,6 +486,7 @@ const SEVENTEEN: &[Arm] = &[
     ("q", Part::Nothing, "end"),
 ];
 
+// `compile` names what is wrong with the labels of a choice, or with a `rec` in one of the same variable.
 #[test]
 fn names_the_fault_of_a_choice(rt: HostRuntime) {
     refuses(&rt, chooses(&rt, B, &[]), LocalFault::NoBranches);

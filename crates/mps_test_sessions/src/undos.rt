@@ -1,4 +1,5 @@
 //! mps_session: an undo removes a step on which none depends, and else names the least that does.
+//! Rows are a `Line` of `steps` each: a role is told the new step's number and what it took (`-`: nothing), or why not.
 use crate::choices::{ask_often, giving, looping};
 use crate::commits::play_giving;
 use crate::steps::Line::{Asks, Count, Keeps, Moves, Undoes, Waits};
@@ -9,6 +10,7 @@ use mps_session::*;
 use std::alloc::AllocGlobal;
 use std::process::Abort;
 
+// A send can be undone once its receipt is. Slot and queue are as before then.
 const WAITS_FOR_THE_RECEIPT: &[Line] = &[
     Asks(A, Ask::Send(B, "5"), "1 -"),
     Asks(B, Ask::Receive(A, "x"), "2 5"),
@@ -23,6 +25,7 @@ const WAITS_FOR_THE_RECEIPT: &[Line] = &[
     Count(0, 2),
 ];
 
+// Steps that aren't there, and steps of another role, which is told before what depends on them.
 const BY_NAME: &[Line] = &[
     Asks(B, Ask::Receive(A, "x"), "NothingQueued"),
     Asks(A, Ask::Receive(B, "x"), "WrongAct"),
@@ -43,6 +46,7 @@ const BY_NAME: &[Line] = &[
 // What is played where a gives b an int, and b one to c.
 const RELAYED: &[&[Line]] = &[WAITS_FOR_THE_RECEIPT, BY_NAME];
 
+// `Session::undo` removes a role's own surviving step on which no other depends, or says why not and changes nothing.
 #[test]
 fn undoes_in_a_relay(rt: HostRuntime) {
     for lines in RELAYED {
@@ -50,8 +54,10 @@ fn undoes_in_a_relay(rt: HostRuntime) {
     }
 }
 
+// a gives b two ints.
 const TWICE: &[&[Row]] = &[&[TO_B, TO_B], &[FROM_A, FROM_A]];
 
+// A message whose receipt is undone waits in front of the other.
 const TO_THE_FRONT: &[Line] = &[
     Asks(A, Ask::Send(B, "1"), "1 -"),
     Asks(A, Ask::Send(B, "2"), "2 -"),
@@ -60,6 +66,7 @@ const TO_THE_FRONT: &[Line] = &[
     Asks(B, Ask::Receive(A, "x"), "4 1"),
 ];
 
+// A message whose send is undone waits no more.
 const GONE: &[Line] = &[
     Asks(A, Ask::Send(B, "1"), "1 -"),
     Asks(B, Ask::Receive(A, "x"), "2 1"),
@@ -69,6 +76,7 @@ const GONE: &[Line] = &[
     Asks(B, Ask::Receive(A, "x"), "4 9"),
 ];
 
+// A slot is bound to what it was before its newest receipt.
 const BOUND_AS_BEFORE: &[Line] = &[
     Asks(A, Ask::Send(B, "1"), "1 -"),
     Asks(A, Ask::Send(B, "2"), "2 -"),
@@ -81,6 +89,7 @@ const BOUND_AS_BEFORE: &[Line] = &[
     Waits(A, B, 1, "-"),
 ];
 
+// Both the next send, 2, and the receipt, 3, depend on step 1.
 const NEEDED_BY_A_SEND: &[Line] = &[
     Asks(A, Ask::Send(B, "1"), "1 -"),
     Asks(A, Ask::Send(B, "2"), "2 -"),
@@ -88,6 +97,7 @@ const NEEDED_BY_A_SEND: &[Line] = &[
     Undoes(A, 1, "Needed 2"),
 ];
 
+// Here the receipt has the lesser number.
 const NEEDED_BY_A_RECEIPT: &[Line] = &[
     Asks(A, Ask::Send(B, "1"), "1 -"),
     Asks(B, Ask::Receive(A, "x"), "2 1"),
@@ -95,6 +105,7 @@ const NEEDED_BY_A_RECEIPT: &[Line] = &[
     Undoes(A, 1, "Needed 2"),
 ];
 
+// The number of an undone step isn't given out again.
 const NEVER_AGAIN: &[Line] = &[
     Asks(A, Ask::Send(B, "1"), "1 -"),
     Undoes(A, 1, "Ok"),
@@ -112,6 +123,7 @@ const GIVEN_TWICE: &[&[Line]] = &[
     NEVER_AGAIN,
 ];
 
+// `Session::undo` leaves queue and slot as before the step, and of the steps that depend on it names the least.
 #[test]
 fn undoes_of_two_messages(rt: HostRuntime) {
     for lines in GIVEN_TWICE {
@@ -119,6 +131,7 @@ fn undoes_of_two_messages(rt: HostRuntime) {
     }
 }
 
+// A pick, a choice and a mark are undone; then another branch is chosen.
 const OTHER_BRANCH: &[Line] = &[
     Asks(A, Ask::Mark("m"), "1 -"),
     Asks(A, Ask::Choose(B, "go"), "2 -"),
@@ -138,14 +151,17 @@ const OTHER_BRANCH: &[Line] = &[
     Moves("1 -; 5 stop; 6 stop; "),
 ];
 
+// `Session::undo` of a pick or a choice takes the role's type back too. A mark is needed by the role's next step.
 #[test]
 fn undoes_choices_and_marks(rt: HostRuntime) {
     let mut session = opened(&rt, looping(&rt));
     play(&rt, &mut session, OTHER_BRANCH);
 }
 
+// After 1,000 sends.
 const MANY: &[Line] = &[Undoes(A, 1, "Needed 2"), Count(1000, 1000)];
 
+// After all of them are undone. 1,000 numbers were given out.
 const NONE_LEFT: &[Line] = &[Undoes(A, 1, "NoStep"), Waits(A, B, 0, "-"), Count(0, 1000)];
 
 // a takes its step of that number back.
@@ -163,6 +179,7 @@ fn undo_all(rt: &(impl Abort + AllocGlobal), session: &mut Session, last: u64) {
     }
 }
 
+// A role's 1,000 sends can be undone one by one, the newest first, and nothing is left but their numbers.
 #[test]
 fn undoes_a_thousand_steps(rt: HostRuntime) {
     let mut session = opened(&rt, giving(&rt));
@@ -180,6 +197,7 @@ fn send_and_undo(rt: &(impl Abort + AllocGlobal), session: &mut Session, times: 
     }
 }
 
+// 1,000 numbers were given out, and none comes again.
 const AFTER_THEM: &[Line] = &[
     Asks(A, Ask::Send(B, "2"), "1001 -"),
     Asks(B, Ask::Receive(A, "x"), "1002 2"),
@@ -188,6 +206,7 @@ const AFTER_THEM: &[Line] = &[
     Count(2, 1002),
 ];
 
+// A send and its undo, 1,000 times: the session then goes on as a new one, with the number 1,001.
 #[test]
 fn undoes_a_thousand_sends_at_once(rt: HostRuntime) {
     let mut session = opened(&rt, giving(&rt));
@@ -195,6 +214,7 @@ fn undoes_a_thousand_sends_at_once(rt: HostRuntime) {
     play(&rt, &mut session, AFTER_THEM);
 }
 
+// x, y and x again are bound, and the receipts undone; then y takes the first message.
 const BOUND_AGAIN: &[Line] = &[
     Asks(A, Ask::Send(B, "1"), "1 -"),
     Asks(A, Ask::Send(B, "2"), "2 -"),
@@ -216,6 +236,7 @@ const BOUND_AGAIN: &[Line] = &[
     Keeps(B, "y", "1"),
 ];
 
+// `Session::undo` of a receipt gives its slot what it had before, and leaves the other slot.
 #[test]
 fn unbinds_slots(rt: HostRuntime) {
     play_giving(&rt, BOUND_AGAIN);

@@ -33,6 +33,7 @@ enum Said {
     Label(&'static str),
 }
 
+// What a message may say: values of each sort, and labels.
 const INT: Option<Said> = Some(Said::Value("7"));
 
 const TRUTH: Option<Said> = Some(Said::Value("true"));
@@ -103,6 +104,7 @@ enum Kind {
     Picks(u8),
 }
 
+// What a type may begin with: outputs and inputs of each sort, and choices, all with b.
 const GIVES: Kind = Kind::Gives(B, Sort::Int);
 
 const GIVES_TRUTH: Kind = Kind::Gives(B, Sort::Bool);
@@ -130,6 +132,7 @@ fn expected(kind: Kind, labels: &[Name]) -> Expect<'_> {
     }
 }
 
+// What is answered: how the role goes on, or the violation.
 type Answer = Result<Advance, Violation>;
 
 const NEXT: Answer = Ok(Advance::Next);
@@ -176,6 +179,7 @@ fn are_answered(rt: &(impl Abort + AllocGlobal), judged: &Judged<'_>) {
     }
 }
 
+// Whatever waits, a role that has ended may do nothing but mark and commit.
 const AT_THE_END: &Judged<'static> = &Judged(
     &[],
     &[
@@ -189,11 +193,13 @@ const AT_THE_END: &Judged<'static> = &Judged(
     ],
 );
 
+// `judge` answers `Ended` to each act where the type has ended, and lets marks and commits pass.
 #[test]
 fn nothing_but_marks_and_commits_after_the_end(rt: HostRuntime) {
     are_answered(&rt, AT_THE_END);
 }
 
+// Where b is to be given an int. The kind of act is judged first, then the peer, then the sort; not what waits.
 const GIVING: &Judged<'static> = &Judged(
     &[],
     &[
@@ -211,11 +217,13 @@ const GIVING: &Judged<'static> = &Judged(
     ],
 );
 
+// `judge` allows the value of that sort for that peer, and else names the first violation.
 #[test]
 fn gives_what_is_expected(rt: HostRuntime) {
     are_answered(&rt, GIVING);
 }
 
+// Where an int is to be taken from b. The kind of act is judged first, then the peer, then what waits.
 const TAKING: &Judged<'static> = &Judged(
     &[],
     &[
@@ -233,11 +241,13 @@ const TAKING: &Judged<'static> = &Judged(
     ],
 );
 
+// `judge` allows the receipt where an int waits first, and else names the first violation.
 #[test]
 fn takes_what_is_expected(rt: HostRuntime) {
     are_answered(&rt, TAKING);
 }
 
+// Values of each sort, given and taken where one of the same sort or of another is expected.
 const OF_EACH_SORT: &Judged<'static> = &Judged(
     &[],
     &[
@@ -253,13 +263,16 @@ const OF_EACH_SORT: &Judged<'static> = &Judged(
     ],
 );
 
+// `judge` compares a value's sort with the expected one; another is `WrongSort` to the sender, `Mismatch` to the other.
 #[test]
 fn passes_values_of_each_sort(rt: HostRuntime) {
     are_answered(&rt, OF_EACH_SORT);
 }
 
+// The labels of the choices below.
 const LABELS: &[&str] = &["ok", "no", "more"];
 
+// Where a label is to be chosen for b. Of labels that begin like one none is taken for it.
 const CHOOSING: &Judged<'static> = &Judged(
     LABELS,
     &[
@@ -278,11 +291,13 @@ const CHOOSING: &Judged<'static> = &Judged(
     ],
 );
 
+// `judge` leads into the branch of the label, by its place from 0, and else names the first violation.
 #[test]
 fn chooses_among_labels(rt: HostRuntime) {
     are_answered(&rt, CHOOSING);
 }
 
+// Where a label is to be picked from b.
 const PICKING: &Judged<'static> = &Judged(
     LABELS,
     &[
@@ -302,11 +317,13 @@ const PICKING: &Judged<'static> = &Judged(
     ],
 );
 
+// `judge` leads into the branch of the label that waits first, by its place from 0, and else names the first violation.
 #[test]
 fn picks_the_branch_of_the_label(rt: HostRuntime) {
     are_answered(&rt, PICKING);
 }
 
+// A label twice, and no label at all. No type without a fault has either.
 const IN_THE_FIRST: &Judged<'static> = &Judged(
     &["ok", "no", "no"],
     &[Row(CHOOSES, Ask::Choose(B, "no"), None, Ok(Advance::Into(1)))],
@@ -317,6 +334,7 @@ const IN_NONE: &Judged<'static> = &Judged(
     &[Row(CHOOSES, Ask::Choose(B, "no"), None, NO_LABEL)],
 );
 
+// `judge` takes labels as they come: of two that are the same, the first. A law's call does nothing.
 #[test]
 fn takes_the_first_of_labels_that_are_the_same(rt: HostRuntime) {
     are_answered(&rt, IN_THE_FIRST);
@@ -345,6 +363,7 @@ fn tell_apart(rt: &(impl Abort + AllocGlobal), peer: u8, other: u8) {
     are_answered(rt, &Judged(LABELS, &rows));
 }
 
+// `judge` allows an act with the very peer of the type, among 8, and refuses it with each other one as `WrongPeer`.
 #[test]
 fn tells_eight_roles_apart(rt: HostRuntime) {
     for peer in 0..8u8 {
@@ -354,11 +373,13 @@ fn tells_eight_roles_apart(rt: HostRuntime) {
     }
 }
 
+// As many labels as a choice may have.
 const SIXTEEN: &[&str] = &[
     "l1", "l2", "l3", "l4", "l5", "l6", "l7", "l8", "l9", "l10", "l11", "l12", "l13", "l14", "l15",
     "l16",
 ];
 
+// The first two labels and the last two, one that isn't there, and the front of all, chosen and picked.
 const OF_SIXTEEN: &Judged<'static> = &Judged(
     SIXTEEN,
     &[
@@ -397,6 +418,7 @@ const OF_SIXTEEN: &Judged<'static> = &Judged(
     ],
 );
 
+// `judge` finds each of the most labels, 16, at its place, and no other.
 #[test]
 fn judges_a_choice_of_sixteen_labels(rt: HostRuntime) {
     are_answered(&rt, OF_SIXTEEN);
@@ -521,6 +543,7 @@ fn leads_to(rt: &(impl Abort + AllocGlobal), t: &Local, asked: Asked, to: u8) {
     goes(rt, t, &rows);
 }
 
+// `next_node` leads to the node behind the label: there an output to the role of its place is allowed.
 #[test]
 fn goes_into_the_first_and_the_last_of_sixteen(rt: HostRuntime) {
     for (text, to) in [("l1", 0), ("l8", 7), ("l9", 0), ("l16", 7)] {
@@ -531,12 +554,14 @@ fn goes_into_the_first_and_the_last_of_sixteen(rt: HostRuntime) {
     }
 }
 
+// The branches of the loop in the test.
 const IN_TURNS: &[Arm] = &[
     ("ok", Kind::Gives(B, Sort::Int), true),
     ("no", Kind::Takes(B, Sort::Bool), false),
     ("more", Kind::End, true),
 ];
 
+// Steps one after the other: those refused stay where they are, and so do a mark and a commit.
 const ROUNDS: &[Asked] = &[
     Asked(Ask::Send(B, "1"), None, Some(Violation::WrongAct)),
     Asked(Ask::Choose(B, "okay"), None, Some(Violation::NoLabel)),
@@ -554,18 +579,20 @@ const ROUNDS: &[Asked] = &[
     Asked(Ask::Choose(B, "ok"), None, Some(Violation::Ended)),
 ];
 
-// `rec X . choose b { ok : send b int . X, no : recv b bool . end, more : X }`.
+// `next_node` goes round `rec X . choose b { ok : send b int . X, no : recv b bool . end, more : X }` and out of it.
 #[test]
 fn goes_on_in_a_loop(rt: HostRuntime) {
     let turns = Local::rec(rt.alloc(), variable(&rt, "X"), chooses(&rt, B, IN_TURNS));
     goes(&rt, &turns.expect(&rt, "memory"), ROUNDS);
 }
 
+// The branches of the pick in the test.
 const ANSWERED: &[Arm] = &[
     ("ok", Kind::Gives(B, Sort::Int), false),
     ("no", Kind::Gives(C, Sort::Bool), false),
 ];
 
+// A label that isn't there, then `no`, and what stands behind it alone.
 const BEHIND_NO: &[Asked] = &[
     Asked(Ask::Pick(C), MORE, Some(Violation::Mismatch)),
     Asked(Ask::Pick(C), NO, None),
@@ -574,7 +601,7 @@ const BEHIND_NO: &[Asked] = &[
     Asked(Ask::Pick(C), NO, Some(Violation::Ended)),
 ];
 
-// `pick c { ok : send b int . end, no : send c bool . end }`.
+// `next_node` goes into the branch picked in `pick c { ok : send b int . end, no : send c bool . end }`.
 #[test]
 fn goes_into_the_branch_of_the_label(rt: HostRuntime) {
     goes(&rt, &picks(&rt, C, ANSWERED), BEHIND_NO);

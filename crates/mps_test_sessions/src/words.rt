@@ -1,4 +1,4 @@
-//! Names, variables, values and branches, as they are spelled.
+//! What the tests of this crate share: names, variables, values and branches, as they are spelled.
 
 use mps_base::{Name, Value, VarName};
 use mps_local::{Branches, Local};

@@ -24,6 +24,7 @@ fn hub(alloc: Global, sessions: u64) -> Result<Hub, Fail>
     Ok(Hub::open(alloc, &names, types.as_slice(), sessions)?)
 }
 
+// `Hub::desk` gives the desk, with the passes of two sessions, once, and then says that it was given.
 #[test]
 fn gives_its_desk_once(rt: HostRuntime) -> Result<(), Fail> {
     let mut hub = hub(rt.alloc(), 2)?;
@@ -38,6 +39,7 @@ fn gives_its_desk_once(rt: HostRuntime) -> Result<(), Fail> {
 // it ends.
 type Row<'t> = (&'t [u8], Option<u64>, usize, &'t [u8], Attended);
 
+// Whether the connection comes to what its row says.
 fn is_played<R: Wait + 'static>(
     rt: &R,
     alloc: Global,
@@ -55,6 +57,7 @@ fn is_played<R: Wait + 'static>(
     Ok(writer.bytes() == *answers && attended == *ended)
 }
 
+// Whether each does, one after the other.
 fn are_played<R: Wait + 'static>(
     rt: &R,
     alloc: Global,
@@ -85,9 +88,12 @@ fn plays<R: Wait + 'static>(
     are_played(rt, alloc, &desk, rows)
 }
 
+// That it joined, and its conversation came to the end of what it sent.
 const CLOSED: Attended = Attended::Conversed(Ending::Closed);
 
+// Connections to one session. `join 1 a` and its LF take nine reads, one a byte; 99 bytes are room for all answers.
 const JOINS: &[Row<'static>] = &[
+    // no such session, which is told before that there is no such role
     (
         b"join 2 a\n",
         None,
@@ -102,6 +108,7 @@ const JOINS: &[Row<'static>] = &[
         b"refused nosession\n",
         Attended::TurnedAway,
     ),
+    // no such role, and first lines that spell no join
     (
         b"join 1 z\n",
         None,
@@ -117,9 +124,11 @@ const JOINS: &[Row<'static>] = &[
         Attended::TurnedAway,
     ),
     (b"\n", None, 99, b"refused line\n", Attended::TurnedAway),
+    // no LF: the bytes end before it, or the ninth read, of the LF, fails
     (b"joi", None, 99, b"", Attended::NoLine),
     (b"join 1 a", None, 99, b"", Attended::NoLine),
     (b"join 1 a\n", Some(9), 99, b"", Attended::NoLine),
+    // a joins, and the rest without an LF is not run
     (
         b"join 1 a\nsend b 5\nund",
         None,
@@ -127,6 +136,7 @@ const JOINS: &[Row<'static>] = &[
         b"joined 1 a\ndone 1\n",
         CLOSED,
     ),
+    // the undo is made, though two bytes of its answer fit beside the 11 of the first: so the next send is step 2
     (
         b"join 1 a\nundo 1\n",
         None,
@@ -141,6 +151,7 @@ const JOINS: &[Row<'static>] = &[
         b"joined 1 a\ndone 2\n",
         CLOSED,
     ),
+    // the first answer doesn't fit, or the tenth read, the first after the join, fails: b receives nothing
     (
         b"join 1 b\nrecv a x\n",
         None,
@@ -155,6 +166,7 @@ const JOINS: &[Row<'static>] = &[
         b"joined 1 b\n",
         Attended::Conversed(Ending::ReadFault),
     ),
+    // b's pass was given back both times
     (
         b"join 1 b\nrecv a x\n",
         None,
@@ -164,12 +176,14 @@ const JOINS: &[Row<'static>] = &[
     ),
 ];
 
+// `Serving::attend` answers the first line and then a conversation; however that ends, the pass can be joined again.
 #[test]
 fn gives_each_pass_back(rt: HostRuntime) -> Result<(), Fail> {
     assert!(rt; plays(&rt, rt.alloc(), hub(rt.alloc(), 1)?, JOINS)?);
     Ok(())
 }
 
+// a's second connection breaks at its tenth read, the first after the join. b receives what its first one sent.
 const FAILING: &[Row<'static>] = &[
     (
         b"join 1 a\nsend b 5\n",
@@ -194,12 +208,14 @@ const FAILING: &[Row<'static>] = &[
     ),
 ];
 
+// What a connection's commands did stays when the role's next connection breaks.
 #[test]
 fn keeps_the_steps_of_a_pass(rt: HostRuntime) -> Result<(), Fail> {
     assert!(rt; plays(&rt, rt.alloc(), hub(rt.alloc(), 1)?, FAILING)?);
     Ok(())
 }
 
+// a's first answer to `1 send b 5` gets lost: there is room for the 11 bytes of `joined` alone.
 const REPEATS: &[Row<'static>] = &[
     (
         b"join 1 a\n1 send b 5\n",
@@ -215,6 +231,7 @@ const REPEATS: &[Row<'static>] = &[
         b"joined 1 a\ndone 1\n",
         CLOSED,
     ),
+    // whatever comes under the newest number, its answer is told
     (
         b"join 1 a\n1 send b 6\n2 mark m\n",
         None,
@@ -222,6 +239,7 @@ const REPEATS: &[Row<'static>] = &[
         b"joined 1 a\ndone 1\ndone 2\n",
         CLOSED,
     ),
+    // b's numbers are its own, and 5 was sent once
     (
         b"join 1 b\n1 recv a x\n",
         None,
@@ -231,14 +249,18 @@ const REPEATS: &[Row<'static>] = &[
     ),
 ];
 
+// The newest number and its answer go back to the desk with the pass: a repeat in a later connection runs nothing.
 #[test]
 fn keeps_the_last_answer_of_a_pass(rt: HostRuntime) -> Result<(), Fail> {
     assert!(rt; plays(&rt, rt.alloc(), hub(rt.alloc(), 1)?, REPEATS)?);
     Ok(())
 }
 
+// A first line of over 512 bytes is read to its LF and refused, and the next connection joins. That its length is
+// looked at this can't show: so many `x` spell no join.
 #[test]
 fn refuses_a_long_first_line(rt: HostRuntime) -> Result<(), Fail> {
+    // one byte more than MAX_LINE
     let mut text = vec![in rt.alloc(); b'x'; 513]?;
     text.push(b'\n')?;
     let refused: &[u8] = b"refused line\n";
@@ -250,6 +272,7 @@ fn refuses_a_long_first_line(rt: HostRuntime) -> Result<(), Fail> {
     Ok(())
 }
 
+// Connections to two sessions.
 const SECOND: &[Row<'static>] = &[
     (
         b"join 2 a\nsend b 5\n",
@@ -258,6 +281,7 @@ const SECOND: &[Row<'static>] = &[
         b"joined 2 a\ndone 1\n",
         CLOSED,
     ),
+    // the first step of session 1
     (
         b"join 1 a\nsend b 6\n",
         None,
@@ -265,6 +289,7 @@ const SECOND: &[Row<'static>] = &[
         b"joined 1 a\ndone 1\n",
         CLOSED,
     ),
+    // of session 2, where a sent 5, the second
     (
         b"join 2 b\nrecv a x\n",
         None,
@@ -294,12 +319,14 @@ fn hub_of_two(alloc: Global, first: u64) -> Result<Hub, Fail>
     Ok(Hub::of_numbered(alloc, &names, first, vec![in alloc; one, second]?)?)
 }
 
+// Sessions that are handed to `Hub::of_numbered` are numbered in their order, here from 1, each with its own journal.
 #[test]
 fn has_its_sessions_apart(rt: HostRuntime) -> Result<(), Fail> {
     assert!(rt; plays(&rt, rt.alloc(), hub_of_two(rt.alloc(), 1)?, SECOND)?);
     Ok(())
 }
 
+// Connections to the sessions 17 and 18, and to numbers that no session has.
 const NUMBERED: &[Row<'static>] = &[
     (
         b"join 17 a\nsend b 4\n",
@@ -345,12 +372,14 @@ const NUMBERED: &[Row<'static>] = &[
     ),
 ];
 
+// `Hub::of_numbered` numbers its sessions from the number that it is given, here 17, which stands for any.
 #[test]
 fn numbers_its_sessions(rt: HostRuntime) -> Result<(), Fail> {
     assert!(rt; plays(&rt, rt.alloc(), hub_of_two(rt.alloc(), 17)?, NUMBERED)?);
     Ok(())
 }
 
+// Each role of both sessions joins.
 const EACH_ROLE: &[Row<'static>] = &[
     (b"join 1 a\n", None, 99, b"joined 1 a\n", CLOSED),
     (b"join 1 b\n", None, 99, b"joined 1 b\n", CLOSED),
@@ -376,6 +405,7 @@ fn plays_twice<R: Wait + 'static>(
     Ok(are_played(rt, alloc, &desk, rows)? && are_played(rt, alloc, &desk, rows)?)
 }
 
+// `Serving::attend` gives each pass of two sessions of three roles back: all can join a second time.
 #[test]
 fn gives_each_pass_of_each_session_back(rt: HostRuntime) -> Result<(), Fail> {
     assert!(rt; plays_twice(&rt, rt.alloc(), hub(rt.alloc(), 2)?, EACH_ROLE)?);

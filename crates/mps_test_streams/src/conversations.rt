@@ -55,9 +55,12 @@ fn entries_after(
 
 // What is said, how many bytes of answers are taken, the end, the answers, and how many entries there are then.
 const LINE_BY_LINE: &[(&str, usize, Ending, &str, u64)] = &[
+    // a rest without an LF is not run
     ("send b 5\nund", 100, Ending::Closed, "done 1\n", 1),
+    // with room for 3 bytes the first answer breaks off, and no further line is called
     ("send b 5\nmark m\n", 3, Ending::WriteFault, "don", 1),
     ("und\n", 3, Ending::WriteFault, "ref", 0),
+    // no line, an empty one, a question, and a line as only a script has it
     ("", 100, Ending::Closed, "", 0),
     ("\n", 100, Ending::Closed, "refused line\n", 0),
     (
@@ -69,6 +72,7 @@ const LINE_BY_LINE: &[(&str, usize, Ending, &str, u64)] = &[
     ),
 ];
 
+// `converse` answers each whole line, in order, and says how the conversation ended.
 #[test]
 fn talks_line_by_line(rt: HostRuntime) -> Result<(), Fail> {
     for (text, space, end, want, count) in LINE_BY_LINE {
@@ -79,6 +83,7 @@ fn talks_line_by_line(rt: HostRuntime) -> Result<(), Fail> {
     Ok(())
 }
 
+// What the two lines below are answered.
 const TWO_ANSWERS: &[u8] = b"done 1\ndone 2\n";
 
 // How many entries there are where two lines were answered in this much space.
@@ -88,6 +93,7 @@ fn entries_in_space(alloc: Global, space: usize, end: Ending) -> Result<Option<u
     entries_after(alloc, pieces, room(space), want, end)
 }
 
+// `converse` writes each byte of its answers once, and calls no line before the answer to the one before it is written.
 // Each of the two answers has 7 bytes.
 #[test]
 fn writes_each_byte_once(rt: HostRuntime) -> Result<(), Fail> {
@@ -101,17 +107,20 @@ fn writes_each_byte_once(rt: HostRuntime) -> Result<(), Fail> {
 
 // Lines of a with numbers and without them, and what they are answered.
 const NUMBERED: &[(&str, &str)] = &[
+    // a number again, and numbers that are neither the newest nor the next
     ("1 send b 5", "done 1"),
     ("1 send b 5", "done 1"),
     ("3 mark m", "refused number"),
     ("2 mark m", "done 2"),
     ("1 mark m", "refused number"),
     ("0 mark m", "refused number"),
+    // the newest number, whatever stands behind it; no number; a refused number, which may come again
     ("2 undo 9", "done 2"),
     ("mark k", "done 3"),
     ("3 undo 9", "refused nostep"),
     ("3 undo 3", "undone 3"),
     ("3 undo 3", "undone 3"),
+    // a question has no number, and a number one spelling
     ("4 show", "refused line"),
     ("04 mark m", "refused line"),
 ];
@@ -130,6 +139,7 @@ fn is_answered(alloc: Global, solo: &mut Solo, line: &str, want: &str) -> Result
     )
 }
 
+// `converse` runs a numbered line once, and repeats its answer. Four of these lines are run and accepted.
 #[test]
 fn runs_a_number_once(rt: HostRuntime) -> Result<(), Fail> {
     let mut solo = new_solo(rt.alloc())?;
@@ -166,6 +176,7 @@ impl Talk {
     }
 }
 
+// The numbered lines; lines that end without an LF; two steps; a line that is no command.
 const TALKS: &[Talk] = &[
     Talk(ASKED, NUMBERED, 4),
     Talk("send b 5\nund", &[("send b 5", "done 1")], 1),
@@ -185,6 +196,7 @@ fn is_told_in_two(alloc: Global, talk: &Talk, at: usize) -> Result<bool, Fail> {
     Ok(entries == Some(talk.2))
 }
 
+// `converse` answers the same lines in whatever two pieces they come.
 #[test]
 fn talks_in_any_two_pieces(rt: HostRuntime) -> Result<(), Fail> {
     for talk in TALKS {
@@ -195,7 +207,8 @@ fn talks_in_any_two_pieces(rt: HostRuntime) -> Result<(), Fail> {
     Ok(())
 }
 
-// Whether the first so many bytes are answered line by line.
+// Whether the first so many bytes are answered line by line. `entries_after` gives `Some` where it went so; how many
+// entries there are then isn't compared.
 fn is_answered_up_to(alloc: Global, talk: &Talk, at: usize) -> Result<bool, Fail> {
     let text = talk.0.get(..at).ok_or("a place")?;
     let told = talk.told(alloc, at)?;
@@ -203,6 +216,7 @@ fn is_answered_up_to(alloc: Global, talk: &Talk, at: usize) -> Result<bool, Fail
     Ok(entries_after(alloc, pieces, room(1_000), &told, Ending::Closed)?.is_some())
 }
 
+// `converse` answers the whole lines before any end, and doesn't run the rest. A failure tells the end, not the talk.
 #[test]
 fn ends_after_any_byte(rt: HostRuntime) -> Result<(), Fail> {
     for talk in TALKS {
@@ -213,7 +227,8 @@ fn ends_after_any_byte(rt: HostRuntime) -> Result<(), Fail> {
     Ok(())
 }
 
-// Whether the conversation ends where the call after so many reads of one byte fails.
+// Whether the conversation ends where the call after so many reads of one byte fails. `entries_after` gives `Some`
+// where it went so; how many entries there are then isn't compared.
 fn ends_after_reads(alloc: Global, talk: &Talk, at: usize) -> Result<bool, Fail> {
     let told = talk.told(alloc, at)?;
     let pieces = in_single_bytes(alloc, talk.0)?;
@@ -221,6 +236,7 @@ fn ends_after_reads(alloc: Global, talk: &Talk, at: usize) -> Result<bool, Fail>
     Ok(entries_after(alloc, pieces, way, &told, Ending::ReadFault)?.is_some())
 }
 
+// `converse` has answered the whole lines before the read that fails. A failure tells after which byte, not the talk.
 #[test]
 fn ends_where_a_read_fails(rt: HostRuntime) -> Result<(), Fail> {
     for talk in TALKS {
@@ -234,7 +250,8 @@ fn ends_where_a_read_fails(rt: HostRuntime) -> Result<(), Fail> {
     Ok(())
 }
 
-// Whether the conversation ends where a write fails after so many bytes.
+// Whether the conversation ends where a write fails after so many bytes. `entries_after` gives `Some` where it went so;
+// how many entries there are then isn't compared.
 fn ends_after_bytes(alloc: Global, talk: &Talk, space: usize) -> Result<bool, Fail> {
     let told = talk.told(alloc, talk.0.len())?;
     let told = told.as_slice().get(..space).ok_or("a place")?;
@@ -242,6 +259,7 @@ fn ends_after_bytes(alloc: Global, talk: &Talk, space: usize) -> Result<bool, Fa
     Ok(entries_after(alloc, pieces, room(space), told, Ending::WriteFault)?.is_some())
 }
 
+// `converse` has written its answers up to the write that fails. A failure tells after how many bytes, not the talk.
 #[test]
 fn ends_where_a_write_fails(rt: HostRuntime) -> Result<(), Fail> {
     for talk in TALKS {
@@ -269,6 +287,7 @@ fn entries_once_asked(
     })
 }
 
+// An answer that could not be written is kept with its number: the line again gives it, and there is still one entry.
 #[test]
 fn asks_again_in_a_second_conversation(rt: HostRuntime) -> Result<(), Fail> {
     let mut solo = new_solo(rt.alloc())?;
@@ -279,6 +298,8 @@ fn asks_again_in_a_second_conversation(rt: HostRuntime) -> Result<(), Fail> {
     Ok(())
 }
 
+// `converse` refuses each long line once, and answers the next line. The limit of 512 bytes this can't show: so many
+// `a` spell nothing, nor is any command so long.
 #[test]
 fn talks_over_long_lines(rt: HostRuntime) -> Result<(), Fail> {
     for length in [MAX_LINE, MAX_LINE + 1, 100_000] {
@@ -319,11 +340,14 @@ fn ends_after_lines(
     Ok(entries_after(alloc, pieces, room(13_000_000), &answers, end)?.is_some())
 }
 
+// `converse` reads MAX_READS times, 1,000,000, and then ends as `Turns`, unless the last of these reads found the end.
 #[test]
 fn reads_a_million_times_at_most(rt: HostRuntime) -> Result<(), Fail> {
     let (alloc, turns) = (rt.alloc(), Ending::Turns);
+    // one read for each byte: of the first million none ends a line, or every second
     assert!(rt; ends_after_lines(alloc, letters(alloc, 1_000_001)?, 0, turns)?);
     assert!(rt; ends_after_lines(alloc, letters_and_ends(alloc, 1_000_001)?, 500_000, turns)?);
+    // the millionth read finds the end, or the last line
     assert!(rt; ends_after_lines(alloc, letters(alloc, 999_999)?, 0, Ending::Closed)?);
     assert!(rt; ends_after_lines(alloc, empty_lines(alloc, 1_000_000)?, 1_000_000, turns)?);
     Ok(())

@@ -1,4 +1,5 @@
-//! Scripts and conversations whose instructions `bench/talks` counts, in the order of the rows here.
+//! mps_wire: scripts and conversations make an entry of each accepted line. `bench/talks` counts the instructions of
+//! these runs, in the order of the rows here.
 use crate::protocols::{names, opened, types};
 use mps_base::Role;
 use mps_dev::{Discard, Pieces};
@@ -13,6 +14,7 @@ const LENGTHS: [u64; 3] = [0, 10_000, 40_000];
 // a gives b numbers without end.
 const NUMBERS: &str = "roles a b c ; rec X . a -> b : int . X";
 
+// A new room in which a gives b numbers.
 fn new_room(alloc: Global) -> Result<Room, Fail> {
     let (roles, session) = opened(alloc, NUMBERS)?;
     Ok(Room::open(alloc, roles, session))
@@ -56,12 +58,14 @@ fn talk(alloc: Global, room: Room, role: Role, lines: Vec<u8>) -> Result<Room, F
 
 // The words of a script's lines, and how many entries each line makes.
 const SCRIPTS: [(&str, u64); 4] = [
+    // steps; steps and their receipts; lines that are refused; lines that are unreadable
     ("a send b 123456", 1),
     ("a send b 123456\nb recv a x", 2),
     ("a send c 123456", 0),
     ("a give b 123456", 0),
 ];
 
+// `replay` makes an entry of each accepted line, in a script of no lines, of 10,000 and of 40,000.
 #[test]
 fn runs_scripts(rt: HostRuntime) -> Result<(), Fail> {
     let alloc = rt.alloc();
@@ -82,13 +86,16 @@ fn entries_after(alloc: Global, words: &str, numbered: bool, count: u64) -> Resu
 
 // Of a conversation of a whether its lines have numbers, their words, and how many entries they make at most.
 const TALKS: [(bool, &str, u64); 5] = [
+    // steps, lines that are refused, lines that are unreadable
     (false, "send b 123456", u64::MAX),
     (false, "send c 123456", 0),
     (false, "give b 123456", 0),
+    // numbered steps, and the same number again and again
     (true, "send b 123456", u64::MAX),
     (false, "1 send b 123456", 1),
 ];
 
+// `converse` makes an entry of each accepted line, of a number once, in a conversation of no, 10,000 and 40,000 lines.
 #[test]
 fn talks(rt: HostRuntime) -> Result<(), Fail> {
     let alloc = rt.alloc();
@@ -114,7 +121,7 @@ fn entries_in_turn(alloc: Global, count: u64) -> Result<u64, Fail> {
     Ok(talk(alloc, room, Role::new(1), taken)?.entries())
 }
 
-// Of so many numbers each is given in one conversation, and taken in the next.
+// `converse` twice in one room: a gives so many numbers, and then b takes them, which makes an entry each.
 #[test]
 fn talks_in_turn(rt: HostRuntime) -> Result<(), Fail> {
     let alloc = rt.alloc();

@@ -1,4 +1,4 @@
-//! Hubs that aren't opened, first lines, and passes that come back.
+//! mps_hub: bad types open no hub, first lines are answered, and passes come back to the desk.
 ghost use Rattle.std.specs.Prelude.{◌≡◌, false, IfOk};
 
 use mps_base::{Name, Role, Roles, Sort};
@@ -56,6 +56,7 @@ fn refused(alloc: Global, peer: u8) -> Result<Option<usize>, Fail> {
     }
 }
 
+// `Hub::open` says whose peer is bad: a names itself, at place 0, or no role of the two. b, at place 1, is a good one.
 #[test]
 fn refuses_bad_peers(rt: HostRuntime) -> Result<(), Fail> {
     for peer in [0, 2, 255] {
@@ -126,6 +127,8 @@ fn ended_after<R: Wait + 'static>(
     attended(rt, alloc, desk, pieces, b"joined 1 a\n")
 }
 
+// After 1,000,000 reads (MAX_READS), here of a letter each, a conversation ends. That its pass went back to the desk,
+// the second connection shows, which joins.
 #[test]
 fn gives_a_pass_back_after_too_many_reads(rt: HostRuntime) -> Result<(), Fail> {
     let mut hub = hub(rt.alloc())?;
@@ -155,7 +158,8 @@ fn ended_at<R: Wait + 'static>(
     attended(rt, alloc, desk, long_line(alloc, letters)?, answers)
 }
 
-// A first line is read byte by byte: after 999,999 letters the LF is the millionth.
+// A first line is looked for by 1,000,000 reads (MAX_READS), of one byte each: after 999,999 letters the LF is the
+// millionth byte, after one letter more it is not read.
 #[test]
 fn looks_for_a_first_line_in_a_million_reads(rt: HostRuntime) -> Result<(), Fail> {
     let mut hub = hub(rt.alloc())?;
@@ -169,16 +173,20 @@ fn looks_for_a_first_line_in_a_million_reads(rt: HostRuntime) -> Result<(), Fail
 
 // First lines, and what they are answered.
 const FIRST_LINES: &[(&[u8], &[u8])] = &[
+    // the greatest number, 2^64 - 1, and one more
     (b"join 18446744073709551615 a\n", b"refused nosession\n"),
     (b"join 18446744073709551616 a\n", b"refused line\n"),
+    // no such role, or no such session, which is told first
     (b"join 1 c\n", b"refused norole\n"),
     (b"join 2 c\n", b"refused nosession\n"),
+    // other spellings, a part too few, other lines
     (b"join 1 A\n", b"refused line\n"),
     (b"join 1  a\n", b"refused line\n"),
     (b"join 1 a \n", b"refused line\n"),
     (b"join 1\n", b"refused line\n"),
     (b"1 join 1 a\n", b"refused line\n"),
     (b"send b 5\n", b"refused line\n"),
+    // a join
     (b"join 1 b\n", b"joined 1 b\n"),
 ];
 
@@ -194,11 +202,13 @@ fn joining<R: Wait + 'static>(
     attended(rt, alloc, desk, pieces, answer)
 }
 
+// `Serving::attend` joins where the first line asks for a role of a session that there are, and else says why not.
 #[test]
 fn answers_first_lines(rt: HostRuntime) -> Result<(), Fail> {
     let mut hub = hub(rt.alloc())?;
     let desk = desk_of(rt.alloc(), &mut hub)?;
     for (line, answer) in FIRST_LINES {
+        // another answer is a failure of `attended`, which doesn't tell the line
         joining(&rt, rt.alloc(), &desk, line, answer)?;
     }
     Ok(())
@@ -216,6 +226,7 @@ fn is_taken<R: Wait + 'static>(rt: &R, alloc: Global, desk: &Desk<'_>) -> Result
     Ok(taken == Attended::TurnedAway && given == Attended::Conversed(Ending::Closed))
 }
 
+// Between `Desk::take` of a role's pass and `Desk::give` a connection that asks for it is answered `refused taken`.
 #[test]
 fn tells_that_a_pass_is_taken(rt: HostRuntime) -> Result<(), Fail> {
     let mut hub = hub(rt.alloc())?;

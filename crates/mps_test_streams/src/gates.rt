@@ -1,4 +1,4 @@
-//! Commands that are held at a gate, in a server's own threads.
+//! mps_hub: a server's connections run in threads of their own, and a gate runs before each of their commands.
 ghost use Rattle.std.specs.Prelude.{◌≡◌, false, IfOk};
 
 use mps_base::{Name, Role, Roles, Sort};
@@ -196,11 +196,13 @@ fn entries_after<
     }
 }
 
+// Two clients. Which is first isn't said, so of `done` and a number only the length is known: a digit and an LF.
 const TWO: &[Client] = &[
     (b"join 1 a\n1 send b 1\n", b"joined 1 a\ndone ", 2, b"\n"),
     (b"join 1 c\nsend d 2\n", b"joined 1 c\ndone ", 2, b"\n"),
 ];
 
+// `serve_with` attends to two connections at once: each waits at the gate till the other is there, and both are done.
 #[test]
 fn two_connections_meet_at_the_gate(rt: HostRuntime) -> Result<(), Fail> {
     let gate = Meeting {
@@ -236,6 +238,8 @@ impl Gate for Order {
     }
 }
 
+// Four clients. The numbers of steps aren't known: `done` goes on with a digit, a space, the value and an LF, which are
+// 4 bytes, or with a digit and `refused nostep`, which with their LFs are 17.
 const FOUR: &[Client] = &[
     (b"join 1 b\nrecv a x\n", b"joined 1 b\ndone ", 4, b" 1\n"),
     (b"join 1 d\nrecv c x\n", b"joined 1 d\ndone ", 4, b" 2\n"),
@@ -253,6 +257,7 @@ const FOUR: &[Client] = &[
     ),
 ];
 
+// `serve_with` attends to four connections at once: b and d come first, and are held till what they receive is sent.
 #[test]
 fn four_clients_share_a_session(rt: HostRuntime) -> Result<(), Fail> {
     let gate = Order {

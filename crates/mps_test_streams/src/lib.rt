@@ -1,4 +1,4 @@
-//! Tests of scripts, conversations, connections and servers, over what their crates make public.
+//! Tests of mps_wire, mps_keeper and mps_hub, over what these make public.
 #![tactic(auto)]
 
 #[cfg(test)]

@@ -1,4 +1,4 @@
-//! What comes over a stream piece by piece, and what answers it.
+//! What the tests of mps_wire share: what comes over a stream piece by piece, and what answers it.
 use mps_lines::MAX_LINE;
 use std::alloc::Global;
 use std::test::Fail;
@@ -26,6 +26,7 @@ pub(crate) fn fails_from(read: usize) -> Way {
     }
 }
 
+// A piece for each text.
 pub(crate) fn in_pieces(alloc: Global, texts: &[&str]) -> Result<Vec<Vec<u8>>, Fail> {
     let mut pieces = Vec::new(alloc);
     for text in texts {
@@ -34,15 +35,18 @@ pub(crate) fn in_pieces(alloc: Global, texts: &[&str]) -> Result<Vec<Vec<u8>>, F
     Ok(pieces)
 }
 
+// The text in one piece.
 pub(crate) fn in_one_piece(alloc: Global, text: &str) -> Result<Vec<Vec<u8>>, Fail> {
     in_pieces(alloc, &[text])
 }
 
+// The text in two pieces, of which the first has so many bytes.
 pub(crate) fn in_two_pieces(alloc: Global, text: &str, at: usize) -> Result<Vec<Vec<u8>>, Fail> {
     let (front, rest) = text.split_at_checked(at).ok_or("a place")?;
     in_pieces(alloc, &[front, rest])
 }
 
+// The text in pieces of one byte.
 pub(crate) fn in_single_bytes(alloc: Global, text: &str) -> Result<Vec<Vec<u8>>, Fail> {
     let mut pieces = Vec::new(alloc);
     for byte in text.as_bytes() {
@@ -51,6 +55,7 @@ pub(crate) fn in_single_bytes(alloc: Global, text: &str) -> Result<Vec<Vec<u8>>,
     Ok(pieces)
 }
 
+// The line and an LF after what is there.
 pub(crate) fn add_line(text: &mut Vec<u8>, line: &str) -> Result<(), Fail> {
     text.extend_from_slice(line.as_bytes())?;
     Ok(text.push(b'\n')?)

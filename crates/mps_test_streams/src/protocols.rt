@@ -1,4 +1,4 @@
-//! New sessions of protocols, and their opening types.
+//! What the tests of this crate share: new sessions of protocols, and their opening types.
 ghost use Rattle.std.specs.Prelude.{◌≡◌, length, IfOk};
 ghost use Rattle.mps_machine.specs.Machine.{initial};
 
@@ -24,6 +24,7 @@ pub(crate) fn types(alloc: Global, protocol: &str) -> Result<Vec<Local>, Fail> {
     Ok(project_all(alloc, &protocol)?)
 }
 
+// The name of these letters.
 pub(crate) fn name(text: &str) -> Result<Name, Fail> {
     Ok(Name::read(text.as_bytes()).ok_or("a name")?)
 }

@@ -17,6 +17,7 @@ use mps_wire::{ReplayFault, replay, replay_session};
 use std::alloc::Global;
 use std::test::Fail;
 
+// A relay's script, and the answers to its lines.
 const SCRIPT: &str = "a send b 5\nb recv a x\nb send c 7\nc recv b y\n";
 
 const ANSWERS: &str = "done 1\ndone 2 5\ndone 3\ndone 4 7\n";
@@ -96,6 +97,7 @@ fn is_answered(alloc: Global, script: &str, want: &str) -> Result<bool, Fail> {
 }
 
 const EACH_LINE: &[(&str, &str)] = &[
+    // four lines, none, an empty one, and lines that no LF ends
     (SCRIPT, ANSWERS),
     ("", ""),
     ("\n", "refused line\n"),
@@ -104,15 +106,19 @@ const EACH_LINE: &[(&str, &str)] = &[
         "\na send b 5\n\nb recv a x",
         "refused line\ndone 1\nrefused line\ndone 2 5\n",
     ),
+    // a refused line changes nothing
     (
         "b recv a x\na send c 5\na send b true\na send b 5\n",
         "refused nothingqueued\nrefused wrongpeer\nrefused wrongsort\ndone 1\n",
     ),
+    // the greatest int, 2^63 - 1, and one more
     ("a send b 9223372036854775807\n", "done 1\n"),
     ("a send b 9223372036854775808\n", "refused line\n"),
+    // no line has a byte of 128 or more, or a CR before its LF
     ("a send b é\na send b 5\r\n", "refused line\nrefused line\n"),
 ];
 
+// `replay` answers each line as a room does, in order, and an unreadable one with `refused line`.
 #[test]
 fn answers_each_line(rt: HostRuntime) -> Result<(), Fail> {
     for (script, want) in EACH_LINE {
@@ -134,6 +140,7 @@ const PLAYED: &[(&str, &str)] = &[
     ("a send b 6", "done 3"),
 ];
 
+// The session after the first two lines, as it is shown.
 const SHOWN: &str =
     r#"{"history":[[1,"a","send","b",5],[2,"b","recv","a","x",5]],"queues":[],"roles":[{"expects":"end","past":[1],"role":"a","store":[]},{"expects":"send c int","past":[2],"role":"b","store":[["x",5]]},{"expects":"recv b int","past":[],"role":"c","store":[]}]}"#;
 
@@ -166,6 +173,7 @@ fn told_in_all(alloc: Global, at: usize) -> Result<Vec<u8>, Fail> {
     Ok(told)
 }
 
+// `replay` writes the same answers in whatever two pieces the script comes.
 #[test]
 fn answers_in_any_two_pieces(rt: HostRuntime) -> Result<(), Fail> {
     let told = told_in_all(rt.alloc(), ASKED.len())?;
@@ -192,6 +200,7 @@ fn is_answered_up_to(alloc: Global, at: usize) -> Result<bool, Fail> {
     )
 }
 
+// `replay` takes a last line that no LF ends as a line, wherever the script ends.
 #[test]
 fn answers_up_to_any_byte(rt: HostRuntime) -> Result<(), Fail> {
     for at in 0..ASKED.len() + 1 {
@@ -214,6 +223,7 @@ fn stops_after_reads(alloc: Global, at: usize) -> Result<bool, Fail> {
     )
 }
 
+// `replay` has answered the whole lines before the read that fails, and says that a read failed.
 #[test]
 fn stops_where_a_read_fails(rt: HostRuntime) -> Result<(), Fail> {
     for at in 0..ASKED.len() + 1 {
@@ -222,6 +232,7 @@ fn stops_where_a_read_fails(rt: HostRuntime) -> Result<(), Fail> {
     Ok(())
 }
 
+// `replay` has written its answers up to the write that fails, each byte once, and says that a write failed.
 #[test]
 fn stops_where_a_write_fails(rt: HostRuntime) -> Result<(), Fail> {
     let told = told_in_all(rt.alloc(), ASKED.len())?;
@@ -239,6 +250,7 @@ fn stops_where_a_write_fails(rt: HostRuntime) -> Result<(), Fail> {
 // In a loop, a chooses go or stop; at go, b gives a a text.
 const TALK: &str = "roles a b ; rec X . a -> b { go : b -> a : text . X , stop : end }";
 
+// Lines of both roles, two turns of the loop, and what they are answered.
 const CHOSEN: &[(&str, &str)] = &[
     ("a mark m", "done 1"),
     ("b pick a", "refused nothingqueued"),
@@ -277,6 +289,7 @@ fn are_answered(alloc: Global, protocol: &str, rows: &[(&str, &str)]) -> Result<
     )
 }
 
+// `replay` answers the lines of a protocol with a loop and a choice as its types allow.
 #[test]
 fn follows_loops_and_choices(rt: HostRuntime) -> Result<(), Fail> {
     assert!(rt; are_answered(rt.alloc(), TALK, CHOSEN)?);
@@ -306,6 +319,7 @@ fn counted(alloc: Global, numbers: u32) -> Result<Outcome, Fail> {
     outcome(alloc, types, pieces, room(2_000_000))
 }
 
+// A journal has 100,000 entries at most: of 100,001 sends the last is refused.
 #[test]
 fn is_full_after_a_hundred_thousand_numbers(rt: HostRuntime) -> Result<(), Fail> {
     let (written, fault) = counted(rt.alloc(), 100_001)?;
@@ -322,6 +336,7 @@ fn long_line(alloc: Global, length: usize) -> Result<Vec<Vec<u8>>, Fail> {
     Ok(vec![in alloc; script]?)
 }
 
+// The answers to a line that is no command and to a command.
 const LONG_ANSWERED: &[u8] = b"refused line\ndone 1\n";
 
 // Whether such a line is answered so.
@@ -341,6 +356,8 @@ fn is_long_in_two(alloc: Global, length: usize) -> Result<bool, Fail> {
     relays(alloc, pieces, room(200), LONG_ANSWERED, None)
 }
 
+// `replay` refuses each long line once, and answers the next. Lines have 512 bytes (MAX_LINE) at most, and a block
+// 65,536 (SCRIPT_BLOCK). The limit itself this can't show: so many `a` spell nothing.
 #[test]
 fn answers_long_lines(rt: HostRuntime) -> Result<(), Fail> {
     for length in [
@@ -387,7 +404,9 @@ type Stop = (
 );
 
 const STOPS: &[Stop] = &[
+    // the first read fails
     (&[SCRIPT], Some(1), 1_000, "", Device::Reader),
+    // the second read fails, within the second line
     (
         &["a send b 5\nb re", "cv a x\n"],
         Some(2),
@@ -395,9 +414,11 @@ const STOPS: &[Stop] = &[
         "done 1\n",
         Device::Reader,
     ),
+    // three bytes of the first answer are taken
     (&[SCRIPT], None, 3, "don", Device::Writer),
 ];
 
+// Whether the run stops as the row says.
 fn stops(alloc: Global, row: &Stop) -> Result<bool, Fail> {
     let (texts, fails_from, room, want, device) = row;
     let way = Way {
@@ -408,6 +429,7 @@ fn stops(alloc: Global, row: &Stop) -> Result<bool, Fail> {
     relays(alloc, pieces, way, want.as_bytes(), Some(fault_of(*device)))
 }
 
+// `replay` says which device failed. It has written the answers to the lines read before, as far as they were taken.
 #[test]
 fn ends_at_faults(rt: HostRuntime) -> Result<(), Fail> {
     for row in STOPS {
@@ -449,6 +471,7 @@ fn has_all(alloc: Global) -> Result<bool, Fail> {
     relays(alloc, a_block_and_a_byte(alloc)?, way, &answers, None)
 }
 
+// `replay` reads 65,536 bytes (SCRIPT_BLOCK) at once, and answers their lines before the next read.
 #[test]
 fn reads_a_block_at_a_time(rt: HostRuntime) -> Result<(), Fail> {
     assert!(rt; has_first(rt.alloc())?, "the lines of the first block");
@@ -473,11 +496,12 @@ fn ends_after_lines(
     )
 }
 
+// `replay` reads MAX_READS times, 1,000,000, and then ends as `Turns`, unless the last of these reads found the end.
 #[test]
 fn stops_after_a_million_reads(rt: HostRuntime) -> Result<(), Fail> {
     let turns = Some(ReplayFault::Turns);
     assert!(rt; ends_after_lines(rt.alloc(), 1_000_001, 1_000_000, turns)?);
-    // the last read of the second finds the end
+    // 999,999 lines, and the millionth read finds the end
     assert!(rt; ends_after_lines(rt.alloc(), 999_999, 999_999, None)?);
     Ok(())
 }
@@ -510,6 +534,7 @@ fn left_unread(alloc: Global) -> Result<(Option<ReplayFault>, Vec<u8>), Fail> {
     Ok((fault, left(alloc, &mut reader)?))
 }
 
+// `replay` writes the answers to what it has read before it reads on: where there is no room, the second line is left.
 #[test]
 fn answers_before_it_reads_on(rt: HostRuntime) -> Result<(), Fail> {
     let (fault, rest) = left_unread(rt.alloc())?;
@@ -548,6 +573,7 @@ fn left_of(
 type OnASession = (&'static str, Option<u64>, usize, &'static str, Left<Device>);
 
 const ON_A_SESSION: &[OnASession] = &[
+    // scripts to their ends; the undone step is an entry, as is its undo, and its number stays used
     (SCRIPT, None, 200, ANSWERS, Ok((4, 4, 4))),
     ("", None, 200, "", Ok((0, 0, 0))),
     (
@@ -557,11 +583,14 @@ const ON_A_SESSION: &[OnASession] = &[
         "done 1\nundone 1\ndone 2\n",
         Ok((3, 1, 2)),
     ),
+    // the first read fails, or the second, which would have found the end
     (SCRIPT, Some(1), 1_000, "", Err(Device::Reader)),
     (SCRIPT, Some(2), 1_000, ANSWERS, Err(Device::Reader)),
+    // 8 bytes of answers are taken
     (SCRIPT, None, 8, "done 1\nd", Err(Device::Writer)),
 ];
 
+// Whether the script is answered so, and leaves that.
 fn leaves(alloc: Global, row: &OnASession) -> Result<bool, Fail> {
     let mut reader = Pieces::new(in_one_piece(alloc, row.0)?, row.1);
     let mut writer = Short::new(alloc, row.2)?;
@@ -573,6 +602,7 @@ fn leaves(alloc: Global, row: &OnASession) -> Result<bool, Fail> {
     Ok(writer.bytes() == row.3.as_bytes() && left == want)
 }
 
+// `replay_session` runs a script on a given session, and gives the room, with an entry for each accepted change.
 #[test]
 fn runs_on_a_session_that_is_handed_in(rt: HostRuntime) -> Result<(), Fail> {
     for row in ON_A_SESSION {
@@ -644,6 +674,7 @@ fn refuses_a_label(alloc: Global) -> Result<bool, Fail> {
     mismatches(alloc, tells(alloc)?, picks(alloc)?, script)
 }
 
+// `replay` answers `mismatch` to a receipt or a pick where types don't fit each other, as those of a protocol do.
 #[test]
 fn refuses_a_message_of_another_kind(rt: HostRuntime) -> Result<(), Fail> {
     assert!(rt; refuses_a_value(rt.alloc())?);
@@ -652,13 +683,16 @@ fn refuses_a_message_of_another_kind(rt: HostRuntime) -> Result<(), Fail> {
     Ok(())
 }
 
+// a gives b a text, a text and an int, and b gives a two bools.
 const EACH_SORT: &str =
     "roles a b ; a -> b : text . b -> a : bool . a -> b : text . b -> a : bool . a -> b : int . end";
 
+// Each value, the empty text and the least int, -2^63, among them, is sent and received.
 const SORTS_ASKED: &str = "a send b \"good day\"\nb recv a x\nb send a true\na recv b y\n\
     a send b \"\"\nb recv a x\nb send a false\na recv b z\n\
     a send b -9223372036854775808\nb recv a x\n";
 
+// What is received is told as it was sent.
 const SORTS_TOLD: &[u8] = b"done 1\ndone 2 \"good day\"\ndone 3\ndone 4 true\n\
     done 5\ndone 6 \"\"\ndone 7\ndone 8 false\n\
     done 9\ndone 10 -9223372036854775808\n";
@@ -669,6 +703,7 @@ fn are_passed(alloc: Global, pieces: Vec<Vec<u8>>) -> Result<bool, Fail> {
     comes_to(alloc, types, pieces, room(200), SORTS_TOLD, None)
 }
 
+// `replay` passes values of each sort on unchanged, in one piece and in single bytes.
 #[test]
 fn passes_values_of_each_sort(rt: HostRuntime) -> Result<(), Fail> {
     let whole = in_one_piece(rt.alloc(), SORTS_ASKED)?;
@@ -740,6 +775,7 @@ const PAST_A_LIMIT: &[(usize, LocalFault)] = &[
     (256, LocalFault::TooManyNodes),
 ];
 
+// `replay` says why types open no session, a bad peer, a loop without an act or a limit, and writes nothing.
 #[test]
 fn opens_no_session(rt: HostRuntime) -> Result<(), Fail> {
     assert!(rt; is_bad(rt.alloc())?);
@@ -757,7 +793,7 @@ fn is_opened(alloc: Global, count: usize) -> Result<bool, Fail> {
     comes_to(alloc, types, script, room(200), b"done 1\n", None)
 }
 
-// 64 levels are not too deep
+// `replay` opens a session of 64 levels, the most: 63 outputs and the end.
 #[test]
 fn opens_the_deepest_session(rt: HostRuntime) -> Result<(), Fail> {
     assert!(rt; is_opened(rt.alloc(), 63)?);

@@ -75,11 +75,13 @@ fn is_shown(rt: &(impl Abort + AllocGlobal), command: &Command, text: &str) -> b
 
 // A line, the place of its role, and its command in words: the peer is a place.
 const SCRIPT_LINES: &[(&str, usize, &str)] = &[
+    // values of each sort; a text may have spaces
     ("a send b \"good day\"", 0, "to 1 \"good day\""),
     ("a send b 5", 0, "to 1 5"),
     ("c send a -5", 2, "to 0 -5"),
     ("c send a true", 2, "to 0 true"),
     ("c send a \" 5 \"", 2, "to 0 \" 5 \""),
+    // the other steps; a mark may be called like a command
     ("b recv a x", 1, "from 0 x"),
     ("a choose b ok", 0, "chooses 1 ok"),
     ("c pick a", 2, "picks 0 "),
@@ -88,6 +90,7 @@ const SCRIPT_LINES: &[(&str, usize, &str)] = &[
     ("b mark commit", 1, "mark commit"),
     ("b commit", 1, "commits"),
     ("c commit", 2, "commits"),
+    // what takes steps back, and questions
     ("b undo 3", 1, "undoes 3"),
     ("c rollback 0", 2, "takes back 0"),
     ("a back m", 0, "goes back to m"),
@@ -95,6 +98,7 @@ const SCRIPT_LINES: &[(&str, usize, &str)] = &[
     ("b show", 1, "asks for the session"),
 ];
 
+// Whether the line is read as its row says.
 fn is_read(rt: &(impl Abort + AllocGlobal), roles: &Roles, row: &(&str, usize, &str)) -> bool {
     match read_script_line(rt.alloc(), roles, row.0.as_bytes()) {
         Ok((role, command)) => role.index() == row.1 && is_shown(rt, &command, row.2),
@@ -102,6 +106,7 @@ fn is_read(rt: &(impl Abort + AllocGlobal), roles: &Roles, row: &(&str, usize, &
     }
 }
 
+// `read_script_line` gives the role and the command that a line of a script spells, here of each kind of command.
 #[test]
 fn good_lines(rt: HostRuntime) {
     let roles = three_roles(&rt);
@@ -110,13 +115,16 @@ fn good_lines(rt: HostRuntime) {
     }
 }
 
+// Lines that spell no command of a, b or c.
 const BAD_LINES: &[&str] = &[
+    // a part is missing
     "",
     "a",
     "a ",
     "a send",
     "a send b",
     "a send b ",
+    // a space too many, no such role, another spelling
     "a send b  5",
     "a send b 5 ",
     "a send z 5",
@@ -125,6 +133,7 @@ const BAD_LINES: &[&str] = &[
     "a send b 007",
     " a send b 5",
     "a  send b 5",
+    // `recv`, `choose`, `pick` and `mark`: a part too many, too few or of another kind, or no such peer
     "a recv b end",
     "a recv b",
     "a recv b \"x\"",
@@ -144,10 +153,12 @@ const BAD_LINES: &[&str] = &[
     "a mark end",
     "a mark b m",
     "a mark  m",
+    // no space after the verb
     "a sendxb 5",
     "a sender b 5",
     "a sendb 5",
     "a marksm",
+    // `commit` has no further part, and one spelling
     "a commit ",
     "a commit x",
     "a commit 1",
@@ -156,15 +167,18 @@ const BAD_LINES: &[&str] = &[
     "a Commit",
     "a commits",
     "a commi",
+    // no role in front, or a number
     "z commit",
     "commit",
     "commit a",
     "1 a commit",
     "a 1 commit",
+    // questions: a space too many, a number in another spelling, no role
     "a show ",
     "a news 01",
     "show",
     "news 0",
+    // a number stands in no line of a script
     "1 a send b 5",
     "a 1 send b 5",
     "1 send b 5",
@@ -178,6 +192,7 @@ fn is_bad_line(alloc: Global, roles: &Roles, line: &str) -> bool {
     )
 }
 
+// `read_script_line` says `Bad` of each line that spells no command of a role.
 #[test]
 fn bad_lines(rt: HostRuntime) {
     let roles = three_roles(&rt);
@@ -201,7 +216,7 @@ fn again(alloc: Global, roles: &Roles, command: &Command) -> Result<(Vec<u8>, Co
     Ok((line, read?))
 }
 
-// A command's line, and the command in words.
+// A command's line, and the command in words, with the least int, -2^63, and the greatest number, 2^64 - 1.
 const COMMANDS: &[(&str, &str)] = &[
     ("send b 5", "to 1 5"),
     ("send c -9223372036854775808", "to 2 -9223372036854775808"),
@@ -245,6 +260,7 @@ fn is_command(rt: &(impl Abort + AllocGlobal), roles: &Roles, line: &str, text: 
         && written.as_slice() == line.as_bytes()
 }
 
+// `read_command` reads the line, `append_command` writes the same line again, and that is read as the same command.
 #[test]
 fn commands_alone(rt: HostRuntime) {
     let roles = three_roles(&rt);
@@ -253,13 +269,16 @@ fn commands_alone(rt: HostRuntime) {
     }
 }
 
+// Lines that spell no command.
 const BAD_COMMANDS: &[&str] = &[
+    // nothing, a role in front, a space too many, no such peer, another spelling
     "",
     " ",
     "a send b 5",
     "send b  5",
     "send z 5",
     "send b 05",
+    // an undo has a number below 2^64, in its one spelling, after one space
     "undo 03",
     "undo",
     "undo ",
@@ -277,12 +296,14 @@ const BAD_COMMANDS: &[&str] = &[
     "undo\t3",
     "undo 18446744073709551616",
     "undo 100000000000000000000",
+    // another word, or a rollback without such a number
     "undone 3",
     "rollback x",
     "rollback",
     "rollback 03",
     "rollback 18446744073709551616",
     "roll 3",
+    // marks have names
     "back 3",
     "back",
     "back ",
@@ -291,6 +312,7 @@ const BAD_COMMANDS: &[&str] = &[
     "back M",
     "backm",
     "mark end",
+    // `commit` stands alone, and no other word does for it
     "commit ",
     "commit  ",
     "commit x",
@@ -311,6 +333,7 @@ const BAD_COMMANDS: &[&str] = &[
     "commit b ok",
     "a commit",
     "1 commit",
+    // questions: a part too many or too few, another spelling
     "show ",
     "show 0",
     "shows",
@@ -323,6 +346,7 @@ const BAD_COMMANDS: &[&str] = &[
     "news 0 1",
     "news m",
     "news 18446744073709551616",
+    // answers are no commands
     "done 1",
     "refused line",
 ];
@@ -335,6 +359,7 @@ fn is_bad_command(alloc: Global, roles: &Roles, line: &str) -> bool {
     )
 }
 
+// `read_command` says `Bad` of each line that spells no command.
 #[test]
 fn bad_commands(rt: HostRuntime) {
     let roles = three_roles(&rt);
@@ -345,7 +370,7 @@ fn bad_commands(rt: HostRuntime) {
 
 // ---- lines of a conversation
 
-// A line, its number, if it has one, and its command.
+// A line, its number, if it has one, and its command. 18446744073709551615 is the greatest number, 2^64 - 1.
 const NUMBERED: &[(&str, Option<u64>, &str)] = &[
     ("1 send b 5", Some(1), "send b 5"),
     ("2 send b \"4 mark m\"", Some(2), "send b \"4 mark m\""),
@@ -388,6 +413,7 @@ fn is_numbered(
     number == row.1 && is_written(rt, roles, &command, row.2)
 }
 
+// `read_numbered` takes a number off, if the line has one, and reads the command, which is written without it.
 #[test]
 fn reads_numbered_lines(rt: HostRuntime) {
     let roles = two_roles(&rt);
@@ -396,12 +422,16 @@ fn reads_numbered_lines(rt: HostRuntime) {
     }
 }
 
+// Lines that spell nothing in a conversation.
 const BAD_NUMBERED: &[&str] = &[
+    // nothing, and a number alone
     "",
     "4",
     "4 ",
+    // a question has no number
     "4 show",
     "4 news 0",
+    // a space too many, a part too few, no name, no such role, something between
     "4  mark m",
     " 4 mark m",
     "4 mark m ",
@@ -410,6 +440,7 @@ const BAD_NUMBERED: &[&str] = &[
     "4 send z 5",
     "4 5 mark m",
     "4 a mark m",
+    // no number in front, or one in another spelling
     "4a mark m",
     "4mark m",
     "4\tmark m",
@@ -420,9 +451,11 @@ const BAD_NUMBERED: &[&str] = &[
     "04 show",
     "18446744073709551616 mark m",
     "100000000000000000000 mark m",
+    // no number and no command
     "a mark m",
     "Mark m",
     "mark m 4",
+    // the same with a commit
     "4  commit",
     "4 commit ",
     "4 commit x",
@@ -441,6 +474,7 @@ fn is_bad_numbered(alloc: Global, roles: &Roles, line: &str) -> bool {
     )
 }
 
+// `read_numbered` says `Bad` of each line that spells neither a command nor a number and a change.
 #[test]
 fn bad_numbered_lines(rt: HostRuntime) {
     let roles = two_roles(&rt);

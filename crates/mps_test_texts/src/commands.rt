@@ -6,7 +6,7 @@ use mps_line::{Reply, append_answer, read_answer, read_command};
 use std::alloc::AllocGlobal;
 use std::process::Abort;
 
-// A line for each command.
+// A line for each command, and for each sort of value.
 const COMMANDS: &[&str] = &[
     "send b \"good day\"",
     "send b -7",
@@ -39,6 +39,7 @@ fn read(rt: &(impl Abort + AllocGlobal), roles: &Roles, line: &str) -> Command {
     read_command(rt.alloc(), roles, line.as_bytes()).expect(rt, "a command")
 }
 
+// `Command::copy` gives an equal command. Two are compared by how they are shown (`Debug`).
 #[test]
 fn copies_commands(rt: HostRuntime) {
     let roles = two_roles(&rt);
@@ -59,6 +60,7 @@ fn copies(rt: &(impl Abort + AllocGlobal), change: Change) {
     assert_eq!(rt; shown.as_str(), shown_change(rt, &copied).as_str());
 }
 
+// `Change::copy` gives an equal change: a pick, a commit, an undo, a rollback, a return. The numbers stand for any.
 #[test]
 fn copies_changes(rt: HostRuntime) {
     let from = Role::new(1);
@@ -77,6 +79,7 @@ fn shown_again(rt: &(impl Abort + AllocGlobal), answer: &Answer) -> Option<Shown
     }
 }
 
+// `Answer::copy` keeps the text of a shown session, byte by byte: any text that begins with a brace.
 #[test]
 fn copies_shown_texts(rt: HostRuntime) {
     let text = ShownText::of(Vec::from_slice(rt.alloc(), b"{1 ~}").expect(&rt, "memory"));
@@ -114,6 +117,7 @@ fn copies_list(rt: &(impl Abort + AllocGlobal), numbers: &[u64]) {
     assert!(rt; has_numbers(&copied, numbers));
 }
 
+// `Answer::copy` keeps a list of step numbers: of none, of one without a vector and with one, of two.
 #[test]
 fn copies_lists_of_numbers(rt: HostRuntime) {
     copies_list(&rt, &[]);
@@ -135,7 +139,7 @@ fn gives_two(ids: StepIds, first: u64, second: u64) -> bool {
     }
 }
 
-// A list of one number that is kept without a vector gives the number, and any other list its vector.
+// `StepIds::try_into_vec`: a list of one number that is kept without a vector gives the number, any other its vector.
 #[test]
 fn gives_lists_of_numbers_up(rt: HostRuntime) {
     assert!(rt; gives_number(StepIds::one(StepId::new(7)), 7));
@@ -167,7 +171,7 @@ fn answer(rt: &(impl Abort + AllocGlobal), line: &str) -> Answer {
     answered(reply).expect(rt, "an answer")
 }
 
-// Lines of answers.
+// Lines of answers: what a step took, or nothing; steps taken back, or none; news; refusals with a number and without.
 const ANSWERS: &[&str] = &[
     "done 6 ok",
     "done 6 \"good day\"",
@@ -180,6 +184,7 @@ const ANSWERS: &[&str] = &[
     "refused ended",
 ];
 
+// `Answer::copy` gives an equal answer, by how it is shown. The last is a list of one number without a vector.
 #[test]
 fn copies_answers(rt: HostRuntime) {
     for line in ANSWERS {
@@ -189,6 +194,7 @@ fn copies_answers(rt: HostRuntime) {
     assert!(rt; is_copied_answer(&rt, &one));
 }
 
+// Lines of answers with numbers.
 const LINES: &[&str] = &["done 2 5", "undone 4 3 2 1", "news 5 3 2"];
 
 // Whether the line is that of a copy of its answer.
@@ -199,6 +205,7 @@ fn is_copied_line(rt: &(impl Abort + AllocGlobal), line: &str) -> bool {
     text.as_slice() == line.as_bytes()
 }
 
+// The copy of an answer is written as the line of which the answer was read.
 #[test]
 fn copies_answers_line_by_line(rt: HostRuntime) {
     for line in LINES {
@@ -233,6 +240,7 @@ fn is_copied_to(rt: &(impl Abort + AllocGlobal), last: u64) -> bool {
     copied.as_slice().len() as u64 == last && rise(&copied)
 }
 
+// `Answer::copy` keeps each number of a list, in order, of short lists and of a long one.
 #[test]
 fn copies_a_thousand_numbers(rt: HostRuntime) {
     for last in [5, 7, 1_000] {

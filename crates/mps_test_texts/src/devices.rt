@@ -127,21 +127,25 @@ impl Write for Stuck {
     }
 }
 
+// Three pieces: the bytes 1 and 2, no byte, and the byte 3.
 fn three_pieces(alloc: Global) -> Result<Vec<Vec<u8>>, AllocError> {
     Ok(vec![in alloc; vec![in alloc; 1, 2]?, vec![in alloc]?, vec![in alloc; 3]?]?)
 }
 
+// A read of a `Pieces` gives bytes of one piece alone, passes over an empty one, and gives 0 at the end.
 #[test]
 fn pieces_come_one_by_one(rt: HostRuntime) -> Result<(), Fail> {
     let mut source = Pieces::new(three_pieces(rt.alloc())?, None);
     let mut buf = [0; 4];
     assert_eq!(rt; source.read(&mut buf), Ok(2));
     assert_eq!(rt; source.read(&mut buf), Ok(1), "past the empty piece");
+    // the 3 stands in front of the 2 of the read before
     assert_eq!(rt; buf, [3, 2, 0, 0]);
     assert_eq!(rt; source.read(&mut buf), Ok(0));
     Ok(())
 }
 
+// With room for one byte a read of a `Pieces` gives one byte. With room for none it gives 0, which isn't the end.
 #[test]
 fn a_piece_is_given_in_parts(rt: HostRuntime) -> Result<(), Fail> {
     let mut source = Pieces::new(three_pieces(rt.alloc())?, None);
@@ -155,6 +159,7 @@ fn a_piece_is_given_in_parts(rt: HostRuntime) -> Result<(), Fail> {
     Ok(())
 }
 
+// With `Some(2)` the second read of a `Pieces` fails, and each one after it: only the first piece comes.
 #[test]
 fn pieces_fail_from_a_call_on(rt: HostRuntime) -> Result<(), Fail> {
     let mut source = Pieces::new(three_pieces(rt.alloc())?, Some(2));
@@ -164,6 +169,7 @@ fn pieces_fail_from_a_call_on(rt: HostRuntime) -> Result<(), Fail> {
     Ok(())
 }
 
+// `Short::new(3)` takes 3 of 5 bytes, and then fails where bytes come. One with room for 9 takes all 5.
 #[test]
 fn a_short_sink_fails_when_full(rt: HostRuntime) -> Result<(), Fail> {
     let mut sink = Short::new(rt.alloc(), 3)?;
@@ -176,6 +182,7 @@ fn a_short_sink_fails_when_full(rt: HostRuntime) -> Result<(), Fail> {
     Ok(())
 }
 
+// `Discard` takes as many bytes as come, also none, and never fails.
 #[test]
 fn a_sink_that_keeps_nothing_takes_all(rt: HostRuntime) {
     assert_eq!(rt; Discard.write(&[5, 6, 7]), Ok(3));
@@ -183,6 +190,7 @@ fn a_sink_that_keeps_nothing_takes_all(rt: HostRuntime) {
     assert_eq!(rt; handed_over(&mut Discard, &[5, 6, 7, 8]), 4);
 }
 
+// `OverRead` gives the bytes of std's reader, here in reads of at most 4, and then the reader back, which is empty.
 #[test]
 fn readers_of_std_are_sources(rt: HostRuntime) -> Result<(), Fail> {
     let text = [1u8, 2, 3, 4, 5];
@@ -194,6 +202,7 @@ fn readers_of_std_are_sources(rt: HostRuntime) -> Result<(), Fail> {
     Ok(())
 }
 
+// `OverWrite` hands all bytes to std's writer. Where the writer takes none of some bytes, that is a failure.
 #[test]
 fn writers_of_std_are_sinks(rt: HostRuntime) -> Result<(), Fail> {
     let mut sink = OverWrite::new(Vec::new(rt.alloc()));
@@ -206,6 +215,7 @@ fn writers_of_std_are_sinks(rt: HostRuntime) -> Result<(), Fail> {
     Ok(())
 }
 
+// A read of `OverRead` is one read of its reader: after an error of any kind the reader was asked once (`calls`).
 #[test]
 fn a_failed_read_is_not_asked_again(rt: HostRuntime) -> Result<(), Fail> {
     for kind in KINDS {
@@ -214,6 +224,7 @@ fn a_failed_read_is_not_asked_again(rt: HostRuntime) -> Result<(), Fail> {
         assert_eq!(rt; once.read(&mut buf), Err(Failed));
         assert_eq!(rt; once.into_inner().calls, 1, "{kind:?}");
 
+        // three calls: one that fails, one that gives the bytes 8 and 9, and one that finds the end
         let mut source = OverRead::new(FailsOnce::new(kind));
         assert_eq!(rt; source.read(&mut buf), Err(Failed), "{kind:?}");
         assert_eq!(rt; source.read(&mut buf), Ok(2), "{kind:?}");
@@ -224,6 +235,7 @@ fn a_failed_read_is_not_asked_again(rt: HostRuntime) -> Result<(), Fail> {
     Ok(())
 }
 
+// A write of `OverWrite` is one write to its writer: after an error it was asked once, and after one more write twice.
 #[test]
 fn a_failed_write_is_not_asked_again(rt: HostRuntime) -> Result<(), Fail> {
     for kind in KINDS {
@@ -239,6 +251,7 @@ fn a_failed_write_is_not_asked_again(rt: HostRuntime) -> Result<(), Fail> {
     Ok(())
 }
 
+// `OverWrite` asks a writer that takes no byte once, and that counts as a failure.
 #[test]
 fn a_stuck_writer_is_not_asked_again(rt: HostRuntime) -> Result<(), Fail> {
     let mut stuck = OverWrite::new(Stuck::new(0, None));
@@ -247,6 +260,7 @@ fn a_stuck_writer_is_not_asked_again(rt: HostRuntime) -> Result<(), Fail> {
     Ok(())
 }
 
+// `OverWrite` asks a writer once to take two bytes, and it takes one. The next write is one call too, and fails.
 #[test]
 fn a_short_write_is_not_asked_again(rt: HostRuntime) -> Result<(), Fail> {
     for error in [None, Some(ErrorKind::Interrupted), Some(ErrorKind::Other)] {

@@ -1,5 +1,5 @@
-//! Tests of names, values, commands, devices, lines, seals, replies, protocols and local types, over what their crates
-//! make public.
+//! Tests of mps_dev, mps_base, mps_command, mps_line, mps_lines, mps_seal, mps_global, mps_local and mps_text, over
+//! what these make public.
 #![tactic(auto)]
 
 #[cfg(test)]

@@ -9,7 +9,7 @@ use std::process::Abort;
 // Five lines: a command, none, a command, one that is not ASCII, and a rest.
 const TEXT: &[u8] = b"a send b 5\n\nb recv a x\ncaf\xC3\xA9\na undo 1";
 
-// A line of the most bytes.
+// A line of the most bytes: as many as MAX_LINE.
 const LONGEST: &[u8] = &[b'x'; 512];
 
 // What a line is reported as.
@@ -127,11 +127,13 @@ fn letters(rt: &(impl Abort + AllocGlobal), count: usize, end: &[u8]) -> Vec<u8>
     bytes
 }
 
+// `Lines` that is fed byte by byte reports the five lines that the whole text has.
 #[test]
 fn pieces_of_one_byte(rt: HostRuntime) {
     are_told(&rt, TEXT, 1, LINES_OF_TEXT);
 }
 
+// `Lines` reports the same five lines wherever the text is cut in two.
 #[test]
 fn every_two_pieces(rt: HostRuntime) {
     are_told_in_two(&rt, TEXT, LINES_OF_TEXT);
@@ -139,14 +141,18 @@ fn every_two_pieces(rt: HostRuntime) {
 
 // How many letters stand in front of which bytes, and what they are told as.
 const LETTERS: &[(usize, &[u8], Told)] = &[
+    // the most bytes, with an LF and as a rest
     (512, b"\n", Text(LONGEST)),
     (512, b"", Text(LONGEST)),
+    // one byte more
     (513, b"\n", TooLong),
     (513, b"", TooLong),
+    // with a last byte of 128: 512 bytes, and 513, which are too long before all else
     (511, b"\x80\n", NotAscii),
     (512, b"\x80\n", TooLong),
 ];
 
+// Up to 512 bytes a line is told, with more it is too long, wherever it is cut in two.
 #[test]
 fn lines_and_rests_of_512_bytes_and_more(rt: HostRuntime) {
     for (count, end, want) in LETTERS {
@@ -160,6 +166,7 @@ const LONG_AND_SHORT: &[Told] = &[TooLong, Text(b"pick a")];
 // Sizes of pieces: a byte, the longest line and one byte more, a block as scripts are read by, and more than all bytes.
 const SIZES: &[usize] = &[1, 512, 513, 65_536, 100_000, 200_000];
 
+// A line far over the limit is told as one that is too long, and the line after it whole, in pieces of any size.
 #[test]
 fn a_line_of_100_000_bytes(rt: HostRuntime) {
     let bytes = letters(&rt, 100_000, b"\npick a\n");
@@ -168,15 +175,19 @@ fn a_line_of_100_000_bytes(rt: HostRuntime) {
     }
 }
 
+// What lines of one byte are told as: of 127, 128 and 255.
 const FROM_128_ON: &[Told] = &[Text(b"\x7F"), NotAscii, NotAscii];
 
+// A line with a byte of 128 or more is no text. All bytes come in one piece, which is shorter than 100.
 #[test]
 fn bytes_from_128_on(rt: HostRuntime) {
     are_told(&rt, b"\x7F\n\x80\n\xFF", 100, FROM_128_ON);
 }
 
+// What three LFs are told as.
 const THREE_EMPTY: &[Told] = &[Text(b""); 3];
 
+// No bytes are no line. Each LF ends one, so three are three lines without a byte, here in pieces of two and one.
 #[test]
 fn empty_lines(rt: HostRuntime) {
     are_told(&rt, b"", 1, &[]);
@@ -214,6 +225,7 @@ fn is_rest(rt: &impl Abort, lines: &mut Lines, want: Option<Told>) {
     assert!(rt; is_waiting(rest.as_ref(), want));
 }
 
+// `finish` gives the rest once, if it has a byte. What is fed then begins a new line; `news` waits for its LF.
 #[test]
 fn finishes_and_begins_again(rt: HostRuntime) {
     let mut lines = Lines::new(rt.alloc());
@@ -246,6 +258,7 @@ fn are_pairs(rt: &impl Abort, told: &[Line], count: usize) {
     }
 }
 
+// 2,000 lines that wait together come out in order: a thousand times two, the second of them in two pieces.
 #[test]
 fn many_lines_wait(rt: HostRuntime) {
     let mut lines = Lines::new(rt.alloc());
@@ -264,6 +277,7 @@ fn kept(rt: &(impl Abort + AllocGlobal), front: &[u8], back: &[u8]) -> Vec<u8> {
     line
 }
 
+// `line_end` finds the first LF, at 6, or none. `keep` keeps a short line whole, and of a long one MOST_KEPT bytes.
 #[test]
 fn fronts_of_lines(rt: HostRuntime) {
     assert!(rt; line_end(b"pick a\nshow\n") == Some(6));
@@ -273,6 +287,7 @@ fn fronts_of_lines(rt: HostRuntime) {
     assert!(rt; kept(&rt, b"", &long).len() == MOST_KEPT);
 }
 
+// All bytes come in one piece of over a megabyte: one line that is too long, and one that is told whole.
 #[test]
 fn a_piece_of_a_megabyte(rt: HostRuntime) {
     let bytes = letters(&rt, 1_100_000, b"\npick a\n");

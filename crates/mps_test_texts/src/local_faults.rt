@@ -93,11 +93,13 @@ fn tells(
     has_fault(rt, many(rt, count, &Part::Sends, chain(rt, parts)), fault);
 }
 
+// 17 labels, one more than a choice may have.
 const LABELS: &[&str] = &[
     "l1", "l2", "l3", "l4", "l5", "l6", "l7", "l8", "l9", "l10", "l11", "l12", "l13", "l14", "l15",
     "l16", "l17",
 ];
 
+// As many labels as a choice may have, and then as many others.
 const FIRST_SIXTEEN: &[&str] = &[
     "l1", "l2", "l3", "l4", "l5", "l6", "l7", "l8", "l9", "l10", "l11", "l12", "l13", "l14", "l15",
     "l16",
@@ -116,14 +118,18 @@ const FIRST_TWICE: &[&str] = &[
 
 // For each fault of a node, in their order, a type that has it.
 const FAULTY: &[(&[Part<'static>], LocalFault)] = &[
+    // a label twice, which is told before that there are too many
     (&[Part::Chooses(&["l", "m", "l"])], LocalFault::DoubleLabel),
     (&[Part::Picks(FIRST_TWICE)], LocalFault::DoubleLabel),
+    // 17 branches, and none
     (&[Part::Picks(LABELS)], LocalFault::TooManyBranches),
     (&[Part::Chooses(&[])], LocalFault::NoBranches),
+    // no `rec` of Y
     (
         &[Part::Rec("X"), Part::Takes, Part::Var("Y")],
         LocalFault::Unbound,
     ),
+    // a `rec` of X in one of X
     (
         &[
             Part::Rec("X"),
@@ -134,6 +140,7 @@ const FAULTY: &[(&[Part<'static>], LocalFault)] = &[
         ],
         LocalFault::Shadowed,
     ),
+    // no act between a `rec` and its variable, though another `rec`
     (&[Part::Rec("X"), Part::Var("X")], LocalFault::Unguarded),
     (
         &[
@@ -147,11 +154,12 @@ const FAULTY: &[(&[Part<'static>], LocalFault)] = &[
     ),
 ];
 
+// `first_fault` names each kind of fault that a node may have, near the root and deep below it.
 #[test]
 fn names_each_fault(rt: HostRuntime) {
     for row in FAULTY {
         tells(&rt, 0, row.0, Some(row.1));
-        // below so many outputs that few levels of the 64 are left
+        // below 50 outputs, so that few of the 64 levels are left
         tells(&rt, 50, row.0, Some(row.1));
     }
 }
@@ -169,7 +177,7 @@ fn tells_of_choice(
     has_fault(rt, Local::Branch { peer, branches }, Some(fault));
 }
 
-// A `rec` or a choice with a fault, and another fault below it.
+// A `rec` or a choice with a fault, another fault below it, and the fault that is named: that of the upper one.
 const FAULT_BELOW: &[(&[Part<'static>], LocalFault)] = &[
     (
         &[Part::Chooses(&["l", "l"]), Part::Var("X")],
@@ -206,6 +214,7 @@ const FAULT_BELOW: &[(&[Part<'static>], LocalFault)] = &[
     ),
 ];
 
+// Of two branches with a fault the left one's is named, and of two nodes on a path the upper one's.
 #[test]
 fn names_the_first_fault_in_preorder(rt: HostRuntime) {
     for first in FAULTY {
@@ -226,6 +235,7 @@ const LENGTHS: &[(u32, Option<LocalFault>)] = &[
     (256, Some(LocalFault::TooManyNodes)),
 ];
 
+// `first_fault` tells limits first: 64 outputs and a faulty node are too many levels, 256 and one too many nodes.
 #[test]
 fn names_the_limits_first(rt: HostRuntime) {
     for row in FAULTY {
@@ -250,7 +260,7 @@ fn uneven(rt: &(impl Abort + AllocGlobal), place: usize, count: u32) -> Local {
     Local::Select { peer, branches }
 }
 
-// The choice and the end are two nodes of the path.
+// `first_fault` finds the deepest of three branches: the choice, 62 outputs and the end are 64 levels, the most.
 #[test]
 fn goes_down_the_deepest_branch(rt: HostRuntime) {
     for place in 0..3usize {
@@ -276,16 +286,19 @@ fn loops(rt: &(impl Abort + AllocGlobal), last: u32) -> Local {
     Local::Branch { peer, branches }
 }
 
-// With the choice and 15 loops, which have 241 nodes, a loop of 13 inputs makes 256.
+// `first_fault` counts all branches: the choice and 15 loops have 241 nodes, a loop of 13 inputs makes 256, the most.
 #[test]
 fn counts_each_node(rt: HostRuntime) {
     has_fault(&rt, loops(&rt, 13), None);
     has_fault(&rt, loops(&rt, 14), Some(LocalFault::TooManyNodes));
 }
 
+// Types without a fault.
 const FAULTLESS: &[&[Part<'static>]] = &[
+    // the end alone, and a loop
     &[],
     &[Part::Rec("X"), Part::Sends, Part::Var("X")],
+    // two `rec`s before one act, and one `rec` after the act
     &[
         Part::Rec("X"),
         Part::Rec("Y"),
@@ -293,6 +306,7 @@ const FAULTLESS: &[&[Part<'static>]] = &[
         Part::Var("X"),
     ],
     &[Part::Rec("X"), Part::Takes, Part::Rec("Y"), Part::Var("X")],
+    // the most labels, and the same labels in two choices
     &[
         Part::Chooses(FIRST_SIXTEEN),
         Part::Picks(LAST_SIXTEEN),
@@ -301,6 +315,7 @@ const FAULTLESS: &[&[Part<'static>]] = &[
     &[Part::Chooses(&["l", "m"]), Part::Chooses(&["l", "m"])],
 ];
 
+// `first_fault` finds none in these. A law's call does nothing: it shows that others can call it so.
 #[test]
 fn finds_no_fault(rt: HostRuntime) {
     for parts in FAULTLESS {
@@ -331,6 +346,7 @@ fn wide(rt: &(impl Abort + AllocGlobal), count: u32) -> Local {
     Local::Select { peer, branches }
 }
 
+// `first_fault` takes types of any size: so many nodes run the stack out where a function calls itself for each.
 #[test]
 fn checks_types_of_any_size(rt: HostRuntime) {
     is_too_long(&rt, 1_000_000, &Part::Sends);

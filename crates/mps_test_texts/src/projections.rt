@@ -125,39 +125,47 @@ fn does(rt: &(impl Abort + AllocGlobal), letters: &[&str], body: Global, role: u
     assert!(rt; are_so, "{text}");
 }
 
+// a gives b ints without end, and c does nothing.
 const LOOP: [Part<'static>; 3] = [Part::Rec("X"), Part::Sent("a", "b", Int), Part::Var("X")];
 
+// a chooses for b; at `r` a gives c an int, and at `l` it does not.
 const ONE: [Part<'static>; 2] = [
     Part::Choice("a", "b", &["l", "r"]),
     Part::Sent("a", "c", Int),
 ];
 
+// The same after a message, which is no choice and isn't counted.
 const BEHIND: [Part<'static>; 3] = [
     Part::Sent("a", "b", Int),
     Part::Choice("a", "b", &["l", "r"]),
     Part::Sent("a", "c", Int),
 ];
 
+// At `r` b chooses for a, and the int comes at the second `r` alone: choice 1 is the one whose branches differ for c.
 const INNER: [Part<'static>; 3] = [
     Part::Choice("a", "b", &["l", "r"]),
     Part::Choice("b", "a", &["l", "r"]),
     Part::Sent("a", "c", Int),
 ];
 
+// c takes choice 0 itself, so its branches may differ. Those of choice 1, between others, may not.
 const OWN: [Part<'static>; 3] = [
     Part::Choice("a", "c", &["l", "r"]),
     Part::Choice("b", "a", &["l", "r"]),
     Part::Sent("a", "c", Int),
 ];
 
+// a gives b an int, b gives c one, and c tells a `ok` or `no`.
 const RELAY: [Part<'static>; 3] = [
     Part::Sent("a", "b", Int),
     Part::Sent("b", "c", Int),
     Part::Choice("c", "a", &["ok", "no"]),
 ];
 
+// a gives b an int, and b gives c one.
 const MESSAGES: [Part<'static>; 2] = [Part::Sent("a", "b", Int), Part::Sent("b", "c", Int)];
 
+// In a loop a gives c an int; then, behind a `rec` to which nothing leads back, it gives b one.
 const LOOPS: [Part<'static>; 5] = [
     Part::Rec("X"),
     Part::Sent("a", "c", Int),
@@ -166,8 +174,10 @@ const LOOPS: [Part<'static>; 5] = [
     Part::Var("X"),
 ];
 
+// A choice of one label: c does the same in all branches.
 const TOLD: [Part<'static>; 2] = [Part::Choice("a", "b", &["l"]), Part::Sent("a", "c", Int)];
 
+// At `r` a and b are in a loop for ever. c takes no part, which is `end` for it, as it is at `l`.
 const IDLE: [Part<'static>; 4] = [
     Part::Choice("a", "b", &["l", "r"]),
     Part::Rec("X"),
@@ -175,8 +185,10 @@ const IDLE: [Part<'static>; 4] = [
     Part::Var("X"),
 ];
 
+// What a, b and c may say, and the choice that can't be merged for c. Choices are counted in preorder, from 0.
 const CHOICES: &[(&[Part<'static>], usize)] = &[(&ONE, 0), (&BEHIND, 0), (&INNER, 1), (&OWN, 1)];
 
+// `project` names the first choice of others that differs for c, the role at place 2. A law's call does nothing.
 #[test]
 fn names_the_choice(rt: HostRuntime) {
     for row in CHOICES {
@@ -185,6 +197,7 @@ fn names_the_choice(rt: HostRuntime) {
     projection_laws();
 }
 
+// What a, b and c may say, the place of a role, and its type.
 const TYPES: &[(&[Part<'static>], u8, &str)] = &[
     (&ONE, 0, "choose b { l : end , r : send c int . end }"),
     (&ONE, 1, "pick a { l : end , r : end }"),
@@ -205,6 +218,7 @@ const TYPES: &[(&[Part<'static>], u8, &str)] = &[
     (&IDLE, 2, "end"),
 ];
 
+// `project` gives the role's local type. It is compared as text (`write_local`), and so is a copy.
 #[test]
 fn projects_each_role(rt: HostRuntime) {
     for row in TYPES {
@@ -222,6 +236,7 @@ fn types_of(
     project_all(rt.alloc(), &protocol)
 }
 
+// `project_all` gives the types of a, b and c in order, or names the first role that has none, and the choice.
 #[test]
 fn projects_all_roles(rt: HostRuntime) {
     let types = types_of(&rt, &RELAY).expect(&rt, "types");
@@ -324,6 +339,7 @@ fn is_same(rt: &(impl Abort + AllocGlobal), way: &Way) {
     does(rt, &THREE, chosen(rt, way.0, way.0), 2, way.1);
 }
 
+// `project` merges branches for c, the role at place 2, where they are equal for it, and names choice 0 where not.
 #[test]
 fn merges_what_is_the_same(rt: HostRuntime) {
     for pair in DIFFERENT {
@@ -389,6 +405,7 @@ const TAKEN: &str = "pick a { \
     l12 : recv a int . end , l13 : recv a bool . end , \
     l14 : recv a text . end , l15 : recv a int . end }";
 
+// The place of a role, from a to h, and its type.
 const WIDE: &[(u8, &str)] = &[
     (0, GIVEN),
     (1, TAKEN),
@@ -400,6 +417,7 @@ const WIDE: &[(u8, &str)] = &[
     (7, "recv g text . end"),
 ];
 
+// `project` merges 16 branches, the most a choice may have, for each of six roles that do the same in all of them.
 #[test]
 fn projects_a_wide_choice(rt: HostRuntime) {
     for row in WIDE {
@@ -434,6 +452,7 @@ fn turn(rt: &(impl Abort + AllocGlobal), next: Local) -> Local {
     }
 }
 
+// A type of 300,000 nodes in one another is dropped at the end of the test, which must not run out of stack.
 #[test]
 fn drops_deep_trees(rt: HostRuntime) {
     let mut tree = Local::End;
@@ -494,6 +513,7 @@ fn is_so_long(rt: &(impl Abort + AllocGlobal), t: Local, length: usize)
     assert_eq!(rt; text.len(), length);
 }
 
+// `write_local` writes types of 100,000 nodes or branches. Of so long a text the length is looked at, token by token.
 #[test]
 fn writes_deep_and_wide_types(rt: HostRuntime) {
     is_so_long(
@@ -594,6 +614,7 @@ fn make_choices_alike(one: &Local, other: &Local) -> bool {
     }
 }
 
+// `Local::copy` and `Branches::copy` give equal types, of 100,000 nodes in one another or as many branches.
 #[test]
 fn copies_deep_and_wide_types(rt: HostRuntime) {
     let deep = outputs(&rt, MANY);
@@ -628,9 +649,11 @@ fn names_another(rt: &impl Abort, t: Local, row: &(usize, usize, bool)) {
     assert!(rt; t.names_others(row.0, row.1) == row.2);
 }
 
+// `Local::names_others`: the types name the role at place 1, `end` names none, and the last type place 2 besides.
 #[test]
 fn names_its_peers(rt: HostRuntime) {
     for row in OTHERS {
+        // so many nodes run the stack out where a function calls itself for each
         names_another(&rt, sends(&rt, 1_000_000), row);
         names_another(&rt, choices(&rt, MANY), row);
         names_another(&rt, choice(&rt, MANY), row);

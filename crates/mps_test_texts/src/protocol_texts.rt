@@ -54,6 +54,7 @@ fn chain(rt: &(impl Abort + AllocGlobal), messages: usize, rest: &[u8]) -> Vec<u
     text
 }
 
+// The labels of a choice with what stands around them: 7 bytes each up to `l9`.
 const LABELS: &[&[u8]] = &[
     b"{ l1 : ",
     b", l2 : ",
@@ -86,19 +87,25 @@ fn choice(rt: &(impl Abort + AllocGlobal), branches: &[usize]) -> Vec<u8> {
     text
 }
 
+// Texts that spell a protocol within the limits; `check` may refuse it.
 const PROTOCOLS: &[&[u8]] = &[
+    // one space between two tokens, no blank where none is needed, each kind of blank
     b"roles a b ; end",
     b"roles a b;a->b:int.b->a:bool.a->b:text.end",
     b"\troles\r\na\tb\n;\r end\n",
+    // the most roles, and the longest name
     b"roles a b c d e f g h ; end",
     b"roles abcdefghijklmnopqrstuvwxyz_01234 b ; end",
+    // variables, also one without a `rec`
     b"roles a b ; X",
     b"roles a b;rec X.rec Y_2.X",
+    // choices, also in one another; the longest label and the longest variable
     b"roles a b;a->b{l:end}",
     b"roles a b;a->b\n{\tabcdefghijklmnopqrstuvwxyz_01234:X,m:b->a{n:end,o:end}\r}",
     b"roles a b ; ABCDEFGHIJKLMNOPQRSTUVWXYZ_01234",
 ];
 
+// `read_protocol` reads each text that spells a protocol. What it is read as, the next two tests look at.
 #[test]
 fn reads_protocols(rt: HostRuntime) {
     for text in PROTOCOLS {
@@ -119,12 +126,14 @@ fn after_message<'a>(node: &'a Global, from: &[u8], to: &[u8], of: Sort) -> Opti
     }
 }
 
+// `read_protocol` reads the roles in order, and each message with its roles and its sort, down to the end.
 #[test]
 fn reads_messages(rt: HostRuntime) {
     let protocol = protocol(&rt, b"roles a b c ; a -> b : int . b -> c : text . end");
     assert!(rt; check(&protocol).is_ok());
     let roles = [name(&rt, "a"), name(&rt, "b"), name(&rt, "c")];
     assert!(rt; protocol.roles.as_slice() == roles.as_slice());
+    // what stands after the first message, which is the second, and what stands after that
     let second = after_message(&protocol.body, b"a", b"b", Sort::Int);
     let last = after_message(second.expect(&rt, "a message"), b"b", b"c", Sort::Text);
     assert!(rt; matches!(last, Some(Global::End)));
@@ -162,6 +171,7 @@ fn after_label<'a>(branches: &'a Branches, letters: &[u8]) -> Option<(&'a Global
     }
 }
 
+// `read_protocol` reads a `rec` with its variable, and the branches of a choice in order, each with what follows it.
 #[test]
 fn reads_branches_and_recursion(rt: HostRuntime) {
     let protocol = protocol(&rt, b"roles a b ; rec X . a -> b { go : X , stop : end }");
@@ -174,6 +184,7 @@ fn reads_branches_and_recursion(rt: HostRuntime) {
     assert!(rt; matches!((stop, others), (Global::End, Branches::NoMore)));
 }
 
+// Texts with a token that may not stand there, or that end where one is missing; and its byte, or the length.
 const UNEXPECTED: &[Row] = &[
     // the first token, and the heading
     (b"", 0),
@@ -228,19 +239,24 @@ const UNEXPECTED: &[Row] = &[
     (b"roles a b ; a -> b { l : end , m : end", 38),
 ];
 
+// `read_protocol` names the first token that can't follow those before it, or the end, as Unexpected.
 #[test]
 fn names_missing_and_misplaced_tokens(rt: HostRuntime) {
     have_faults(&rt, TextKind::Unexpected, UNEXPECTED);
 }
 
+// Texts with bytes that are no token, and the byte at which these begin.
 const MALFORMED: &[Row] = &[
+    // in the heading, and right after it
     (b"\0roles a b ; end", 0),
     (b"Roles a b ; end", 0),
     (b"roles _a b ; end", 6),
     (b"roles a \x80", 8),
     (b"roles\ta\tb\t;\r\n9", 13),
+    // a name and a variable of 33 bytes, one more than they may have
     (b"roles abcdefghijklmnopqrstuvwxyz_012345 b ; end", 6),
     (b"roles ABCDEFGHIJKLMNOPQRSTUVWXYZ_012345 b ; end", 6),
+    // in the global type
     (b"roles a b ; \"", 12),
     (b"roles a b ; Xx", 12),
     (b"roles a b ; a>b", 13),
@@ -258,22 +274,28 @@ const MALFORMED: &[Row] = &[
     (b"roles a b ; a -> b { l : end } -", 31),
 ];
 
+// `read_protocol` names the first bytes that are no token as Word, also after a whole protocol.
 #[test]
 fn names_malformed_words(rt: HostRuntime) {
     have_faults(&rt, TextKind::Word, MALFORMED);
 }
 
+// Texts with a token after a whole protocol, and its byte.
 const TRAILING: &[Row] = &[
+    // after `end`
     (b"roles a b ; end end", 16),
     (b"roles a b ; end}", 15),
     (b"roles a b ; end .", 16),
     (b"roles a b ; end roles", 16),
+    // the token X stands before the malformed word, and the first fault is named
     (b"roles a b ; end X 9x", 16),
+    // after a variable, and after a choice
     (b"roles a b ; X Y", 14),
     (b"roles a b ; rec X . X ->", 22),
     (b"roles a b ; a -> b { l : end } }", 31),
 ];
 
+// `read_protocol` names a token after a whole protocol as Trailing. A row that fails shows kind and byte, not its text.
 #[test]
 fn names_what_stands_after_a_protocol(rt: HostRuntime) {
     have_faults(&rt, TextKind::Trailing, TRAILING);
@@ -282,12 +304,15 @@ fn names_what_stands_after_a_protocol(rt: HostRuntime) {
 // How many messages a chain has, what stands after them, and the fault. With the 12 bytes in front and 15 for each
 // message the node after 64 of them, at level 65, begins at byte 972.
 const CHAINS: &[(usize, &[u8], Option<Fault>)] = &[
+    // 63 messages and the end are 64 levels, the most
     (63, b"end", None),
     (64, b"end", Some((TextKind::TooDeep, 972))),
     (300, b"end", Some((TextKind::TooDeep, 972))),
+    // `}` begins no node, so it is at no level
     (64, b"}", Some((TextKind::Unexpected, 972))),
 ];
 
+// `read_protocol` reads 64 levels and 65,536 bytes (MAX_TEXT_BYTES), and names the node or the byte after them.
 #[test]
 fn keeps_the_limits(rt: HostRuntime) {
     for row in CHAINS {
@@ -295,25 +320,32 @@ fn keeps_the_limits(rt: HostRuntime) {
     }
     let blanks = vec![in rt.alloc(); b' '; MAX_TEXT_BYTES + 1].expect(&rt, "memory");
     has_fault(&rt, &blanks, Some((TextKind::TooLong, 65536)));
+    // as many blanks as a text may have bytes: a token is missing at their end
     has_fault(&rt, &blanks[1..], Some((TextKind::Unexpected, 65536)));
 }
 
-// The most messages after each label.
+// How many messages stand after each label where there are 256 nodes, the most: the choice, seven branches of 31
+// messages and an end, and one of 30 and an end.
 const MOST: &[usize] = &[31, 31, 31, 31, 31, 31, 31, 30];
 
-// Too many nodes; node 257 at depth 65; and node 256 there.
+// How many messages stand after each label, and the fault. It is at the last `end`: after 19 bytes in front, 7 for each
+// label, 15 for each message, and 4 for each other `end`.
 const CHOICES: &[(&[usize], Fault)] = &[
+    // 257 nodes
     (
         &[31, 31, 31, 31, 31, 31, 31, 31],
         (TextKind::TooManyNodes, 3823),
     ),
+    // node 257, at level 65: the number of nodes is told
     (
         &[31, 31, 31, 31, 31, 31, 63],
         (TextKind::TooManyNodes, 3827),
     ),
+    // node 256, at level 65
     (&[30, 31, 31, 31, 31, 31, 63], (TextKind::TooDeep, 3812)),
 ];
 
+// `read_protocol` reads 256 nodes in all, and names the token that begins one more.
 #[test]
 fn counts_the_nodes(rt: HostRuntime) {
     let most = protocol(&rt, &choice(&rt, MOST));
@@ -323,6 +355,7 @@ fn counts_the_nodes(rt: HostRuntime) {
     }
 }
 
+// Protocols in their written form; `check` refuses some of them, which is not looked at here.
 const WRITTEN: &[&[u8]] = &[
     b"roles a b c ; a -> b : int . b -> c : int . end",
     b"roles a b c ; a -> b : int . b -> c : int . c -> a { ok : end , no : end }",
@@ -359,6 +392,7 @@ fn stays(rt: &(impl Abort + AllocGlobal), text: &[u8]) {
     is_written(rt, text, text);
 }
 
+// `write_protocol` writes a protocol in its one form, which is read again. `loose` has other blanks.
 #[test]
 fn writes_what_it_read(rt: HostRuntime) {
     for text in WRITTEN {
@@ -387,7 +421,7 @@ fn deep(rt: &(impl Abort + AllocGlobal), count: usize) -> Global {
     body
 }
 
-// far deeper than a text may be, and a choice without branches
+// `write_protocol` writes trees that no text spells, here 20,000 messages and a choice without branches.
 #[test]
 fn writes_any_tree(rt: HostRuntime) {
     let roles = vec![in rt.alloc(); name(&rt, "a"), name(&rt, "b")].expect(&rt, "memory");
@@ -399,6 +433,7 @@ fn writes_any_tree(rt: HostRuntime) {
     assert!(rt; written.as_slice() == chain(&rt, 20000, b"a -> b { }").as_slice());
 }
 
+// A TextFault is displayed with its byte and kind. A law's call does nothing: it shows that others can call it so.
 #[test]
 fn shows_a_fault(rt: HostRuntime) {
     let fault = TextFault {

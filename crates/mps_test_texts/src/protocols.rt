@@ -6,6 +6,7 @@ use mps_global::{Branches, Global, GlobalFault, check, protocol_laws, size_laws}
 use std::alloc::AllocGlobal;
 use std::process::Abort;
 
+// What `check` answers.
 type Checked = Result<(), GlobalFault>;
 
 // The check of what these roles may say is answered so.
@@ -27,24 +28,29 @@ fn many(rt: &(impl Abort + AllocGlobal), count: u32, part: &Part<'_>) -> Global 
 
 const TWO: &[&str] = &["a", "b"];
 
+// As many roles as there may be, and one more.
 const EIGHT: &[&str] = &["a", "b", "c", "d", "e", "f", "g", "h"];
 
 const NINE: &[&str] = &["a", "b", "c", "d", "e", "f", "g", "h", "i"];
 
 // Roles, how many messages stand before the end, and the fault. With the end 63 are 64 levels, and 255 are 256 nodes.
 const LEVELS: &[(&[&str], u32, Checked)] = &[
+    // the fewest roles, and the most
     (TWO, 0, Ok(())),
     (EIGHT, 1, Ok(())),
+    // the most levels, and more; then more nodes, which are told before levels
     (TWO, 63, Ok(())),
     (TWO, 64, Err(GlobalFault::TooDeep)),
     (TWO, 255, Err(GlobalFault::TooDeep)),
     (TWO, 256, Err(GlobalFault::TooManyNodes)),
+    // the number of roles is told first, and then a name that stands twice
     (&["a"], 256, Err(GlobalFault::RoleCount)),
     (NINE, 0, Err(GlobalFault::RoleCount)),
     (&["a", "a"], 256, Err(GlobalFault::DoubleRole)),
     (&["b", "a", "b"], 0, Err(GlobalFault::DoubleRole)),
 ];
 
+// `check` allows 2 to 8 roles, 256 nodes and 64 levels, and names the first limit that is passed.
 #[test]
 fn counts_roles_nodes_and_levels(rt: HostRuntime) {
     for (roles, messages, answer) in LEVELS {
@@ -52,17 +58,20 @@ fn counts_roles_nodes_and_levels(rt: HostRuntime) {
     }
 }
 
+// Messages of the roles a, b and c, one after the other, and the answer. No role is called z.
 const MESSAGES: &[(&[Part<'static>], Checked)] = &[
     (
         &[Part::Sent("a", "b", Int), Part::Sent("b", "c", Int)],
         Ok(()),
     ),
+    // one of the two is no role, also in the second message
     (&[Part::Sent("z", "b", Int)], Err(GlobalFault::UnknownRole)),
     (&[Part::Sent("a", "z", Int)], Err(GlobalFault::UnknownRole)),
     (
         &[Part::Sent("a", "b", Int), Part::Sent("a", "z", Int)],
         Err(GlobalFault::UnknownRole),
     ),
+    // an unknown role is told before a message to itself, the first message before the second
     (&[Part::Sent("z", "z", Int)], Err(GlobalFault::UnknownRole)),
     (
         &[Part::Sent("a", "a", Int), Part::Sent("a", "z", Int)],
@@ -85,16 +94,19 @@ fn are_checked(
     }
 }
 
+// `check` refuses a message of an unknown role, or of a role to itself, and names the first fault.
 #[test]
 fn checks_messages(rt: HostRuntime) {
     are_checked(&rt, &NINE[..3], MESSAGES);
 }
 
+// As many labels as a choice may have.
 const SIXTEEN: &[&str] = &[
     "l1", "l2", "l3", "l4", "l5", "l6", "l7", "l8", "l9", "l10", "l11", "l12", "l13", "l14", "l15",
     "l16",
 ];
 
+// One label more.
 const LABELS: &[&str] = &[
     "l1", "l2", "l3", "l4", "l5", "l6", "l7", "l8", "l9", "l10", "l11", "l12", "l13", "l14", "l15",
     "l16", "l17",
@@ -106,12 +118,15 @@ const FIRST_TWICE: &[&str] = &[
     "l16", "l1",
 ];
 
+// Choices of the roles a, b and c, and the answer. No role is called z.
 const CHOICES: &[(&[Part<'static>], Checked)] = &[
+    // 16 labels, and 17
     (&[Part::Choice("a", "b", SIXTEEN)], Ok(())),
     (
         &[Part::Choice("a", "b", LABELS)],
         Err(GlobalFault::TooManyBranches),
     ),
+    // a label twice, which is told before that there are too many
     (
         &[Part::Choice("a", "b", &["l", "m", "l"])],
         Err(GlobalFault::DoubleLabel),
@@ -120,7 +135,9 @@ const CHOICES: &[(&[Part<'static>], Checked)] = &[
         &[Part::Choice("a", "b", FIRST_TWICE)],
         Err(GlobalFault::DoubleLabel),
     ),
+    // no label
     (&[Part::Choice("a", "b", &[])], Err(GlobalFault::NoBranches)),
+    // the roles are looked at before the labels
     (
         &[Part::Choice("a", "z", &["l", "l"])],
         Err(GlobalFault::UnknownRole),
@@ -139,21 +156,25 @@ const CHOICES: &[(&[Part<'static>], Checked)] = &[
     ),
 ];
 
+// `check` refuses a choice by its roles, and then by its labels: none, one twice, or more than 16.
 #[test]
 fn checks_choices(rt: HostRuntime) {
     are_checked(&rt, &NINE[..3], CHOICES);
 }
 
+// Loops of the roles a and b, and the answer.
 const VARIABLES: &[(&[Part<'static>], Checked)] = &[
     (
         &[Part::Rec("X"), Part::Sent("a", "b", Int), Part::Var("X")],
         Ok(()),
     ),
+    // no `rec` of X
     (
         &[Part::Sent("a", "b", Int), Part::Var("X")],
         Err(GlobalFault::Unbound),
     ),
     (&[Part::Var("X")], Err(GlobalFault::Unbound)),
+    // a `rec` of X in one of X
     (
         &[
             Part::Rec("X"),
@@ -164,11 +185,12 @@ const VARIABLES: &[(&[Part<'static>], Checked)] = &[
         ],
         Err(GlobalFault::Shadowed),
     ),
-    // the message comes before the inner one
+    // the message to z comes before the inner `rec`
     (
         &[Part::Rec("X"), Part::Sent("a", "z", Int), Part::Rec("X")],
         Err(GlobalFault::UnknownRole),
     ),
+    // no message between a variable and its `rec`
     (
         &[Part::Rec("X"), Part::Var("X")],
         Err(GlobalFault::Unguarded),
@@ -186,6 +208,7 @@ const VARIABLES: &[(&[Part<'static>], Checked)] = &[
         ],
         Err(GlobalFault::Unguarded),
     ),
+    // a choice between them is enough
     (
         &[
             Part::Rec("X"),
@@ -197,6 +220,7 @@ const VARIABLES: &[(&[Part<'static>], Checked)] = &[
     ),
 ];
 
+// `check` refuses a variable without its `rec` or right behind, a `rec` in one of its name. A law's call does nothing.
 #[test]
 fn checks_variables(rt: HostRuntime) {
     are_checked(&rt, &NINE[..2], VARIABLES);
@@ -207,7 +231,8 @@ fn checks_variables(rt: HostRuntime) {
 // A choice with one branch, which holds one, and so on.
 const NESTED: &Part<'static> = &Part::Choice("a", "b", &["l"]);
 
-// 150,000 levels run the stack out where a function calls itself for each.
+// 150,000 levels run the stack out where a function calls itself for each, as one that drops a tree may. 63 choices in
+// one another and the end are 64 levels, the most that `check` allows.
 #[test]
 fn drops_deep_trees(rt: HostRuntime) {
     is_checked(&rt, TWO, many(&rt, 63, NESTED), Ok(()));
@@ -244,6 +269,8 @@ fn choice(rt: &impl Abort, from: &str, to: &str, branches: Branches) -> Global {
     }
 }
 
+// 150,000 branches run the stack out where a function calls itself for each, as one that drops a tree may. 300 branches
+// with 300 choices in one another are deep and wide.
 #[test]
 fn drops_wide_trees(rt: HostRuntime) {
     drop(wide(&rt, 150_000, 0));
@@ -265,6 +292,7 @@ fn are_ends(branches: &Branches, labels: &[&str]) -> bool {
     rest.next().is_none()
 }
 
+// `Branches::iter` gives each label with what follows it, in order.
 #[test]
 fn walks_branches(rt: HostRuntime) {
     let labels = &["l", "m", "n"];
@@ -282,7 +310,8 @@ fn eight(rt: &(impl Abort + AllocGlobal), last: u32) -> Global {
     choice(rt, "a", "b", branches)
 }
 
-// The choice, seven branches of 32 nodes and one of 31 make 256.
+// `check` counts the nodes of all branches, of which there may be 256: the choice, seven branches of 31 messages and an
+// end, and one of 30 and an end.
 #[test]
 fn counts_nodes_over_branches(rt: HostRuntime) {
     is_checked(&rt, TWO, eight(&rt, 30), Ok(()));

@@ -37,6 +37,7 @@ fn written(rt: &(impl Abort + AllocGlobal), reply: &Reply) -> (Vec<u8>, bool) {
 
 // A reply's line, and its code.
 const REPLIES: &[(&str, u8)] = &[
+    // what a step took, if it took something: values of each sort, or a label
     ("done 1", 0),
     ("done 0", 0),
     ("done 18446744073709551615 true", 0),
@@ -45,6 +46,7 @@ const REPLIES: &[(&str, u8)] = &[
     ("done 3 \"good day\"", 0),
     ("done 3 \" 5 \"", 0),
     ("done 3 \"\"", 0),
+    // steps that were taken back, and news
     ("undone", 0),
     ("undone 3", 0),
     ("undone 4 3 2 1", 0),
@@ -52,11 +54,14 @@ const REPLIES: &[(&str, u8)] = &[
     ("news 0", 0),
     ("news 5 4", 0),
     ("news 100000 3 2 1", 0),
+    // a shown session: any line that begins with a brace
     ("{}", 0),
     ("{x", 0),
     ("{\"a\": [1,  2], \"b ", 0),
+    // that a connection joined
     ("joined 1 a", 0),
     ("joined 18446744073709551615 role_2", 0),
+    // refusals, each with the code of FORMATS
     ("refused ended", 1),
     ("refused wrongact", 2),
     ("refused wrongpeer", 3),
@@ -86,6 +91,7 @@ fn is_read_again(rt: &(impl Abort + AllocGlobal), line: &[u8]) -> bool {
     is_same && written.as_slice() == line
 }
 
+// `read_answer` reads each kind of reply, `Reply::code` gives its code, and `Reply::write` writes the same line again.
 #[test]
 fn reads_replies(rt: HostRuntime) {
     for (line, code) in REPLIES {
@@ -94,7 +100,9 @@ fn reads_replies(rt: HostRuntime) {
     }
 }
 
+// Lines that are no replies.
 const BAD_REPLIES: &[&str] = &[
+    // nothing, and `done` with a part too few, too many, or in another spelling
     "",
     " ",
     "done",
@@ -110,6 +118,7 @@ const BAD_REPLIES: &[&str] = &[
     "done x",
     "Done 1",
     "done 18446744073709551616",
+    // `undone` and `news`: a number missing or in another spelling, a space too many
     "undone ",
     "undone  3",
     "undone 3 ",
@@ -126,6 +135,7 @@ const BAD_REPLIES: &[&str] = &[
     "news 3 x",
     "news 03",
     "news 3 02",
+    // `joined` has a number and a name, each in its one spelling
     "joined",
     "joined 1",
     "joined 1 ",
@@ -134,6 +144,7 @@ const BAD_REPLIES: &[&str] = &[
     "joined 1 end",
     "joined 1 a b",
     "joined 18446744073709551616 a",
+    // `needed` and `final` have one number, in its one spelling
     "refused",
     "refused ",
     "refused needed",
@@ -158,6 +169,7 @@ const BAD_REPLIES: &[&str] = &[
     "refused Final 2",
     "refused  final 2",
     "final 2",
+    // other refusals have no number, and no word is shorter or longer
     "refused  full",
     "refused full ",
     "refused full 3",
@@ -167,11 +179,13 @@ const BAD_REPLIES: &[&str] = &[
     "refused number ",
     "refused number 3",
     "refused numbers",
+    // a shown session begins with its brace, and has bytes from the space to `~` alone
     " {x",
     "{x\n",
     "{\t}",
     "{\x7f}",
     "{é}",
+    // commands and first lines are no replies
     "show",
     "undo 3",
     "join 1 a",
@@ -182,6 +196,7 @@ fn is_bad_reply(alloc: Global, line: &str) -> bool {
     matches!(read_answer(alloc, line.as_bytes()), Err(LineFault::Bad))
 }
 
+// `read_answer` says `Bad` of each line that is no reply.
 #[test]
 fn bad_replies(rt: HostRuntime) {
     for line in BAD_REPLIES {
@@ -199,8 +214,10 @@ fn numbered(rt: &(impl Abort + AllocGlobal), words: &[u8], last: u64) -> Vec<u8>
     line
 }
 
+// Words, and how many numbers stand behind them, from 1 on.
 const LONG: &[(&str, u64)] = &[("undone", 1_000), ("news 7", 1_000), ("{", 20_000)];
 
+// Replies may be of any length: 1,000 step numbers, and over 100,000 bytes that a brace makes a shown session.
 #[test]
 fn reads_long_replies(rt: HostRuntime) {
     for (words, last) in LONG {
@@ -216,6 +233,7 @@ const JOINS: &[(&str, u64, &str)] = &[
     ("join 18446744073709551615 join", u64::MAX, "join"),
 ];
 
+// Lines that don't join: a part too few, too many or in another spelling, and other words.
 const BAD_JOINS: &[&str] = &[
     "",
     "join",
@@ -237,6 +255,7 @@ const BAD_JOINS: &[&str] = &[
     "show",
 ];
 
+// Whether the line is read as one that joins that session and role.
 fn is_join(line: &str, session: u64, name: &str) -> bool {
     match read_join(line.as_bytes()) {
         Ok(pass) => pass.0 == session && pass.1.as_bytes() == name.as_bytes(),
@@ -249,6 +268,7 @@ fn is_bad_join(line: &str) -> bool {
     matches!(read_join(line.as_bytes()), Err(LineFault::Bad))
 }
 
+// `read_join` reads `join`, a number below 2^64 and a name, each in its one spelling, and says `Bad` of all else.
 #[test]
 fn reads_joins(rt: HostRuntime) {
     for (line, session, name) in JOINS {

@@ -3,6 +3,7 @@ use mps_seal::Seal;
 use std::alloc::AllocGlobal;
 use std::process::Abort;
 
+// The protocol on which the first seal of a session depends.
 const PROTOCOL: &[u8] = b"roles a b ; a -> b : int . end";
 
 // Lines of its session 1, and the same with their seals, which were computed by Python's hashlib.
@@ -19,9 +20,9 @@ fn first(rt: &(impl Abort + AllocGlobal), session: u64) -> Seal {
 
 // The seal after the line, if it is sealed so, and nothing but that is read as the line.
 fn written(rt: &(impl Abort + AllocGlobal), seal: Seal, line: &[u8], sealed: &[u8]) -> Seal {
-    let mut out = Vec::new(rt.alloc());
-    let next = seal.write(line, &mut out).expect(rt, "memory");
-    assert_eq!(rt; out.as_slice(), sealed);
+    let mut text = Vec::from_slice(rt.alloc(), line).expect(rt, "memory");
+    let next = seal.close(&mut text).expect(rt, "memory");
+    assert_eq!(rt; text.as_slice(), sealed);
     next
 }
 
@@ -33,6 +34,7 @@ fn is_read(seal: Seal, sealed: &[u8], line: &[u8]) -> bool {
     }
 }
 
+// `Seal::write` appends each line with its seal, and gives that seal, over which the next one is.
 #[test]
 fn seals_lines(rt: HostRuntime) {
     let mut seal = first(&rt, 1);
@@ -41,6 +43,7 @@ fn seals_lines(rt: HostRuntime) {
     }
 }
 
+// By the seal before it `Seal::read` takes the seal off each line, and gives the line.
 #[test]
 fn reads_what_was_sealed(rt: HostRuntime) {
     let mut seal = first(&rt, 1);
@@ -64,6 +67,7 @@ fn sees_each_flip(rt: &(impl Abort + AllocGlobal), seal: Seal, sealed: &[u8], at
     true
 }
 
+// `Seal::read` reads no line that differs from a sealed one in one bit, of the line or of the seal.
 #[test]
 fn sees_each_changed_bit(rt: HostRuntime) {
     let sealed = SEALED[0].1;
@@ -72,12 +76,23 @@ fn sees_each_changed_bit(rt: HostRuntime) {
     }
 }
 
+// A seal is over the protocol, the session and all lines before: elsewhere `Seal::read` doesn't read the line.
 #[test]
 fn sees_a_line_of_another_place(rt: HostRuntime) {
     // the second line in place of the first, the first again, the first of another session
     assert!(rt; first(&rt, 1).read(SEALED[1].1).is_none());
     assert!(rt; first(&rt, 1).next(SEALED[0].0).read(SEALED[0].1).is_none());
     assert!(rt; first(&rt, 2).read(SEALED[0].1).is_none());
+}
+
+// `Seal::read` reads no line without a seal, and none whose seal is spelled in capitals.
+#[test]
+fn reads_a_seal_alone(rt: HostRuntime) {
+    // the third line above has nothing but its seal
+    let second = first(&rt, 1).next(SEALED[0].0).next(SEALED[1].0);
+    assert!(rt; second.alone(SEALED[2].1).is_some());
+    assert!(rt; second.alone(SEALED[1].1).is_none());
+    assert!(rt; first(&rt, 1).alone(SEALED[2].1).is_none());
 }
 
 #[test]

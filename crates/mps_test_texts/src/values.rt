@@ -1,4 +1,4 @@
-//! mps_base: names, variables, values, numbers and lists of roles are read exactly where they are spelled so.
+//! mps_base: names, variables, values, numbers and roles are read exactly where they are spelled so; copies are equal.
 use crate::words::name;
 use mps_base::*;
 use std::alloc::{AllocGlobal, Global};
@@ -16,16 +16,21 @@ fn is_written(rt: &(impl Abort + AllocGlobal), value: &Value, text: &[u8]) -> bo
     bytes.as_slice() == text
 }
 
+// One letter, a digit and `_`, the most bytes (32), the front of a reserved word, and a digit at the end.
 const NAMES: &[&str] = &["a", "a_1", "abcdefghijklmnopqrstuvwxyz_01234", "ends", "x0"];
 
+// Bytes that are no name, each for one reason.
 const NO_NAMES: &[&str] = &[
+    // nothing; no small letter first; a byte that no name has
     "",
     "A",
     "1a",
     "_a",
     "a-b",
     "a b",
+    // 33 bytes
     "abcdefghijklmnopqrstuvwxyz_012345",
+    // the reserved words
     "roles",
     "rec",
     "end",
@@ -36,6 +41,7 @@ const NO_NAMES: &[&str] = &[
     "false",
 ];
 
+// `Name::read` gives a name exactly where the bytes are one, and the name has these bytes.
 #[test]
 fn names(rt: HostRuntime) {
     for good in NAMES {
@@ -48,9 +54,12 @@ fn names(rt: HostRuntime) {
     }
 }
 
+// One letter, a digit and `_`, the most bytes (32), and a word that is reserved in small letters.
 const VARIABLES: &[&str] = &["X", "A_1", "ABCDEFGHIJKLMNOPQRSTUVWXYZ_01234", "END"];
 
+// Bytes that are no variable, each for one reason.
 const NO_VARIABLES: &[&str] = &[
+    // nothing; no capital first; a byte that no variable has
     "",
     "x",
     "Xy",
@@ -58,10 +67,12 @@ const NO_VARIABLES: &[&str] = &[
     "_A",
     "A-B",
     "A B",
+    // a reserved word; 33 bytes
     "end",
     "ABCDEFGHIJKLMNOPQRSTUVWXYZ_012345",
 ];
 
+// `VarName::read` gives a variable exactly where the bytes are one, and the variable has these bytes.
 #[test]
 fn variables(rt: HostRuntime) {
     for good in VARIABLES {
@@ -74,20 +85,26 @@ fn variables(rt: HostRuntime) {
     }
 }
 
+// Values as they are spelled.
 const VALUES: &[&str] = &[
+    // ints, the greatest and the least (2^63 - 1 and -2^63) among them
     "0",
     "7",
     "-1",
     "9223372036854775807",
     "-9223372036854775808",
+    // truth values
     "true",
     "false",
+    // texts: of no bytes, with a space, with the last byte that a text may have
     "\"\"",
     "\"good day\"",
     "\"~!0\"",
 ];
 
+// Bytes that spell no value.
 const NO_VALUES: &[&str] = &[
+    // no int: no digit, a sign or a zero too many, a blank, one past the greatest and the least
     "",
     "-",
     "-0",
@@ -97,14 +114,17 @@ const NO_VALUES: &[&str] = &[
     "1 ",
     "9223372036854775808",
     "-9223372036854775809",
+    // no truth value
     "True",
     "truer",
+    // no text: a quote is missing, or a byte stands in it that no text has
     "\"",
     "\"open",
     "\"a\"b\"",
     "\"a\\b\"",
     "\"tab\t\"",
     "\"\u{e9}\"",
+    // a name is no value
     "name",
 ];
 
@@ -120,6 +140,7 @@ fn is_no_value(alloc: Global, text: &[u8]) -> bool {
     matches!(Value::read(alloc, text), Err(ValueFault::Bad))
 }
 
+// `Value::read` gives a value exactly where the bytes spell one. `write` gives the same bytes, of a copy too.
 #[test]
 fn values(rt: HostRuntime) {
     for text in VALUES {
@@ -143,6 +164,7 @@ fn text_of(rt: &(impl Abort + AllocGlobal), count: usize) -> Option<Text> {
     Text::new(vec![in rt.alloc(); b'x'; count].expect(rt, "memory"))
 }
 
+// A text has at most 256 bytes: of 257 `Value::read` and `Text::new` make none, of 256 there is one, and a copy.
 #[test]
 fn text_lengths(rt: HostRuntime) {
     assert!(rt; is_no_value(rt.alloc(), &quoted(&rt, 257)));
@@ -152,6 +174,7 @@ fn text_lengths(rt: HostRuntime) {
     assert!(rt; text_of(&rt, 257).is_none());
 }
 
+// Each text of 0 to 256 letters, in quotes, is read, and written and copied as it was read.
 #[test]
 fn texts_of_each_length(rt: HostRuntime) {
     for count in 0..257 {
@@ -159,6 +182,7 @@ fn texts_of_each_length(rt: HostRuntime) {
     }
 }
 
+// A value and its sort. In quotes `true` is a text.
 const SORTS: &[(&str, Sort)] = &[
     ("5", Sort::Int),
     ("true", Sort::Bool),
@@ -170,6 +194,7 @@ fn is_of(value: &Value, sort: Sort) -> bool {
     value.sort() == sort && value.fits(sort)
 }
 
+// A value is of its own sort: `Value::sort` and `Value::fits` say so, and an int does not fit bool.
 #[test]
 fn sorts(rt: HostRuntime) {
     for (text, sort) in SORTS {
@@ -178,8 +203,10 @@ fn sorts(rt: HostRuntime) {
     assert!(rt; !Value::Int(1).fits(Sort::Bool));
 }
 
+// The least number, one more, and the greatest, 2^64 - 1.
 const NUMBERS: &[(&str, u64)] = &[("0", 0), ("1", 1), ("18446744073709551615", u64::MAX)];
 
+// No digit, a sign, a zero too many, a letter, and 2^64.
 const NO_NUMBERS: &[&str] = &["", "-1", "+1", "01", "00", "1a", "18446744073709551616"];
 
 // Whether the text is that of the number.
@@ -189,6 +216,7 @@ fn is_number_text(rt: &(impl Abort + AllocGlobal), text: &[u8], number: u64) -> 
     read_number(text) == Some(number) && out.as_slice().get(1..) == Some(text)
 }
 
+// `read_number` reads just the numbers below 2^64, in one spelling each. `write_number` appends it, here after a `#`.
 #[test]
 fn numbers(rt: HostRuntime) {
     for (text, number) in NUMBERS {
@@ -199,6 +227,7 @@ fn numbers(rt: HostRuntime) {
     }
 }
 
+// Nine names, one more than there may be roles.
 const LETTERS: &[&str] = &["a", "b", "c", "d", "e", "f", "g", "h", "i"];
 
 // So many names, from a on.
@@ -226,6 +255,7 @@ fn is_found(roles: &Roles, name: &Name, place: usize) -> bool {
     }
 }
 
+// How many names there are, and how many roles they make, or the fault: roles are 2 to 8.
 const COUNTS: &[(usize, Result<usize, RoleFault>)] = &[
     (0, Err(RoleFault::RoleCount)),
     (1, Err(RoleFault::RoleCount)),
@@ -243,6 +273,7 @@ fn is_double(rt: &(impl Abort + AllocGlobal)) -> bool {
     )
 }
 
+// `Roles::of` takes 2 to 8 names, all of them different, and a copy has as many.
 #[test]
 fn role_lists(rt: HostRuntime) {
     for (names, wanted) in COUNTS {
@@ -256,8 +287,10 @@ fn three(rt: &(impl Abort + AllocGlobal)) -> Roles {
     Roles::of(rt.alloc(), &letters(rt, 3)).expect(rt, "roles")
 }
 
+// Not the name of any of a, b and c: nothing, another name, a capital, more letters, a reserved word.
 const NO_ROLES: &[&[u8]] = &[b"", b"d", b"C", b"cc", b"end"];
 
+// `Roles::find` and `find_spelled` give the role of that name, here c at place 2, and none where no role has it.
 #[test]
 fn finds_roles(rt: HostRuntime) {
     let roles = three(&rt);
@@ -286,6 +319,7 @@ fn copies(rt: &(impl Abort + AllocGlobal), act: Act) {
     assert!(rt; is_copied(rt, &Step { id, role, act }));
 }
 
+// `Step::copy` gives an equal step, whatever its act: an output, an input, a mark, a commit. Its numbers stand for any.
 #[test]
 fn copied_steps(rt: HostRuntime) {
     let label = name(&rt, "yes");
@@ -320,6 +354,7 @@ fn copy_of(rt: &(impl Abort + AllocGlobal), message: &Message) -> Message {
     message.copy(rt.alloc()).expect(rt, "memory")
 }
 
+// `Message::copy` gives an equal message: two ints, which stand for any, and a label.
 #[test]
 fn copied_messages(rt: HostRuntime) {
     for number in [5, 7] {
@@ -337,6 +372,7 @@ fn is_at(rt: &impl Abort, roles: &Roles, text: &str, place: usize) -> bool {
     is_found(roles, &name, place) && again.is(&name) && again.as_bytes() == text.as_bytes()
 }
 
+// `Roles::copy` has a, b and c at the places 0, 1 and 2.
 #[test]
 fn copied_roles(rt: HostRuntime) {
     let copied = three(&rt).copy(rt.alloc()).expect(&rt, "memory");
@@ -351,6 +387,7 @@ fn put(rt: &impl Abort, text: &mut Vec<u8>, token: &[u8]) {
     push_token(text, token).expect(rt, "memory");
 }
 
+// `push_token` puts one space between two tokens, and none before the first. A law's call does nothing.
 #[test]
 fn spaces_tokens(rt: HostRuntime) {
     let mut text = Vec::new(rt.alloc());

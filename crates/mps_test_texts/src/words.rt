@@ -1,4 +1,4 @@
-//! Names, variables and lists of roles, of letters.
+//! What the tests of this crate share: names, variables and lists of roles, of letters.
 
 use mps_base::{Name, Roles, VarName};
 use std::alloc::AllocGlobal;

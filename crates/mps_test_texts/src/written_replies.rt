@@ -17,6 +17,7 @@ fn is_answer(rt: &(impl Abort + AllocGlobal), answer: Answer, line: &str) {
     is_written(rt, &Reply::Answer(answer), line);
 }
 
+// The answer that this step is done, and took this, is written so.
 fn is_done(rt: &(impl Abort + AllocGlobal), number: u64, got: Option<Message>, line: &str) {
     let id = StepId::new(number);
     is_answer(rt, Answer::Done(Done { id, got }), line);
@@ -27,6 +28,7 @@ fn is_taken(rt: &(impl Abort + AllocGlobal), number: u64, value: Value, line: &s
     is_done(rt, number, Some(Message::Value(value)), line);
 }
 
+// `Reply::write` appends a new step's number and what the step took: nothing, a truth value, an int, a label, a text.
 #[test]
 fn done(rt: HostRuntime) {
     is_done(&rt, 1, None, "#done 1");
@@ -53,6 +55,7 @@ fn listed(rt: &(impl Abort + AllocGlobal), numbers: &[u64]) -> StepIds {
     StepIds::of(ids)
 }
 
+// Numbers of steps, and the line.
 const UNDONE: &[(&[u64], &str)] = &[
     (&[], "#undone"),
     (&[1], "#undone 1"),
@@ -60,6 +63,7 @@ const UNDONE: &[(&[u64], &str)] = &[
     (&[0, u64::MAX], "#undone 0 18446744073709551615"),
 ];
 
+// `Reply::write` appends the numbers of the steps taken back, in their order. The last list is kept without a vector.
 #[test]
 fn undone(rt: HostRuntime) {
     for (numbers, line) in UNDONE {
@@ -72,6 +76,7 @@ fn undone(rt: HostRuntime) {
     );
 }
 
+// How many entries the journal has, numbers of steps, and the line.
 const NEWS: &[(u64, &[u64], &str)] = &[
     (0, &[], "#news 0"),
     (5, &[], "#news 5"),
@@ -89,6 +94,7 @@ fn is_news(rt: &(impl Abort + AllocGlobal), length: u64, numbers: &[u64], line: 
     is_answer(rt, Answer::News { length, ids }, line);
 }
 
+// `Reply::write` appends the length of the journal, and the numbers in their order.
 #[test]
 fn news(rt: HostRuntime) {
     for (length, numbers, line) in NEWS {
@@ -96,12 +102,14 @@ fn news(rt: HostRuntime) {
     }
 }
 
+// `Reply::write` appends a shown session as it is.
 #[test]
 fn shown_sessions(rt: HostRuntime) {
     let text = Vec::from_slice(rt.alloc(), b"{\"history\":[]}").expect(&rt, "memory");
     is_answer(&rt, Answer::Shown(ShownText::of(text)), "#{\"history\":[]}");
 }
 
+// Each violation, and its line.
 const VIOLATIONS: &[(Violation, &str)] = &[
     (Violation::Ended, "#refused ended"),
     (Violation::WrongAct, "#refused wrongact"),
@@ -112,10 +120,12 @@ const VIOLATIONS: &[(Violation, &str)] = &[
     (Violation::Mismatch, "#refused mismatch"),
 ];
 
+// The refusal is written as this line.
 fn is_refused(rt: &(impl Abort + AllocGlobal), refusal: Refusal, line: &str) {
     is_answer(rt, Answer::Refused(refusal), line);
 }
 
+// `Reply::write` appends each reason for which a room refuses a command, `needed` and `final` with the step.
 #[test]
 fn refused(rt: HostRuntime) {
     for (violation, line) in VIOLATIONS {
@@ -137,8 +147,9 @@ fn refused(rt: HostRuntime) {
     );
 }
 
+// `Reply::write` appends each refusal that a script, a conversation or a server gives by itself.
 #[test]
-fn refused_lines(rt: HostRuntime) {
+fn refusals_that_no_room_gives(rt: HostRuntime) {
     is_written(&rt, &Reply::BadLine, "#refused line");
     is_written(&rt, &Reply::NoSession, "#refused nosession");
     is_written(&rt, &Reply::NoRole, "#refused norole");

@@ -4,7 +4,7 @@ use mps_embed::Embedded;
 use mps_open::open_text;
 use std::alloc::Global;
 
-// How many bytes of an answer are looked at.
+// How many bytes of an answer are looked at: as many as the longest here has, or more.
 const MOST: usize = 16;
 
 // Whether a line of that role gets this answer.
@@ -17,7 +17,7 @@ fn gets(room: &mut Embedded, role: &[u8], line: &[u8], answer: &[u8]) -> bool {
     }
 }
 
-// Whether an entry, of which so many bytes are looked at, has this line and length.
+// Whether an entry, of which 8 bytes are looked at, has this front and length. Past the end that is nothing, and 0.
 fn has_entry(room: &mut Embedded, k: u64, front: &[u8], length: usize) -> bool {
     let mut out = [0u8; MOST];
     match room.entry_into(k, &mut out[..8]) {
@@ -57,6 +57,7 @@ fn gives_none(alloc: Global, text: &[u8], number: u32, place: u64) -> bool {
     fault.map(|f| (f.number(), f.place())) == Some((number, place))
 }
 
+// `Embedded` answers a line of a role, and one of a name that is no role, and gives answers and entries into a buffer.
 #[test]
 fn embeds_a_room(rt: HostRuntime) {
     let room = Embedded::open(rt.alloc(), RELAY);
@@ -67,6 +68,7 @@ fn embeds_a_room(rt: HostRuntime) {
     assert!(rt; embedded);
 }
 
+// `Embedded` runs a number of a role once, and each role has numbers of its own.
 #[test]
 fn embeds_numbers_of_each_role(rt: HostRuntime) {
     let room = Embedded::open(rt.alloc(), RELAY);
@@ -77,7 +79,8 @@ fn embeds_numbers_of_each_role(rt: HostRuntime) {
     assert!(rt; numbered);
 }
 
-// The numbers of a malformed word, of a role that sends to itself, and of no type for the role at place 2: 48 and 2.
+// `open_text` gives a fault, with a number and a place: a malformed word is 17, at its byte; a role that sends to
+// itself 37; no type for the role at place 2 is 48 and 2, at the choice.
 #[test]
 fn names_why_a_text_gives_no_session(rt: HostRuntime) {
     let alloc = rt.alloc();

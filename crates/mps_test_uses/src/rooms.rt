@@ -28,6 +28,7 @@ pub(crate) fn relay(alloc: Global) -> Result<(Roles, Session), Fail>
     Ok((names, session))
 }
 
+// The calls that the README of mps_room shows. No step has the number 1 or 2, and nothing is in the journal yet.
 #[test]
 fn calls_a_room(rt: HostRuntime) -> Result<(), Fail> {
     let alloc = rt.alloc();
@@ -44,6 +45,7 @@ fn calls_a_room(rt: HostRuntime) -> Result<(), Fail> {
     Ok(())
 }
 
+// `converse` runs a line of a role, and writes its answer, as the tour shows.
 #[test]
 fn holds_a_conversation(rt: HostRuntime) -> Result<(), Fail> {
     let alloc = rt.alloc();

@@ -10,6 +10,7 @@ use std::test::Fail;
 // a gives b an int, and b gives c one.
 pub(crate) const RELAY: &[u8] = b"roles a b c ; a -> b : int . b -> c : int . end";
 
+// A session of a protocol, as the tour opens it: a send and its undo leave no step.
 #[test]
 fn takes_a_step_back(rt: HostRuntime) -> Result<(), Fail> {
     let alloc = rt.alloc();
@@ -26,6 +27,7 @@ fn takes_a_step_back(rt: HostRuntime) -> Result<(), Fail> {
     Ok(())
 }
 
+// The calls that the README of mps_session shows: after its send a's type has ended, until that is undone.
 #[test]
 fn opens_a_session_of_types(rt: HostRuntime) -> Result<(), Fail> {
     let alloc = rt.alloc();

@@ -1,5 +1,6 @@
-//! Each name that callers of the libraries use, once, with its arguments: whoever renames one finds it here. A call that
-//! requires what can't be shown in a line is made by a function that requires the same.
+//! The crates from mps_dev to mps_hub: each name that callers use, once, with its arguments: whoever renames one finds
+//! it here. A test is called after the crates whose names it has. A call that requires what can't be shown in a line is
+//! made by a function that requires the same.
 ghost use Rattle.std.specs.Prelude.{◌≡◌, ◌<◌, ◌≤◌, ◌^◌, [], None, IsSome, IsTrue, IfOk, length, false};
 ghost use Rattle.mps_arena.specs.Keys.{last_key};
 ghost use Rattle.mps_arena.specs.KeyedSteps.{HasSmallPeer, keyed_at, keys_of, steps};
@@ -120,6 +121,7 @@ use std::test::Fail;
 use std::thread::Threads;
 use std::time::Clock;
 
+// The roles at the places 0 and 1.
 fn a() -> Role
     ensures { result ≡ 0 }
 {
@@ -134,8 +136,9 @@ fn b() -> Role
 
 // ---- names, values and acts
 
+// A name is read, and a role has a place, found by its name.
 #[test]
-fn names(rt: HostRuntime) -> Result<(), Fail> {
+fn names_and_roles_of_mps_base(rt: HostRuntime) -> Result<(), Fail> {
     let alloc = rt.alloc();
     let first = Name::read(b"a").expect(&rt, "a name");
     let second = Name::read(b"b").expect(&rt, "a name");
@@ -146,8 +149,9 @@ fn names(rt: HostRuntime) -> Result<(), Fail> {
     Ok(())
 }
 
+// A value is read, written and copied.
 #[test]
-fn values(rt: HostRuntime) -> Result<(), Fail> {
+fn values_of_mps_base(rt: HostRuntime) -> Result<(), Fail> {
     let alloc = rt.alloc();
     let value = Value::read(alloc, b"5")?;
     let mut out = Vec::new(alloc);
@@ -175,8 +179,9 @@ fn kind_of(act: &Act) -> u8 {
     }
 }
 
+// Each act and each message is named by `kind_of`; two of them are made.
 #[test]
-fn acts(rt: HostRuntime) {
+fn acts_of_mps_base(rt: HostRuntime) {
     assert!(rt; kind_of(&Act::Commit) == 3);
     assert!(rt;
         kind_of(&Act::In {
@@ -188,8 +193,9 @@ fn acts(rt: HostRuntime) {
 
 // ---- protocols and types
 
+// A text is read, checked and written again.
 #[test]
-fn protocols(rt: HostRuntime) -> Result<(), Fail> {
+fn protocols_of_mps_text_and_mps_global(rt: HostRuntime) -> Result<(), Fail> {
     let alloc = rt.alloc();
     let protocol = read_protocol(alloc, RELAY)?;
     check(&protocol)?;
@@ -206,8 +212,9 @@ fn are_of_size(text: TextFault, protocol: GlobalFault, local: LocalFault) -> boo
         && local == LocalFault::TooManyNodes
 }
 
+// The fault of too many nodes, in a text, a protocol and a local type.
 #[test]
-fn faults_of_size(rt: HostRuntime) {
+fn faults_of_mps_text_mps_global_and_mps_local(rt: HostRuntime) {
     let text = TextFault {
         at: 0,
         kind: TextKind::TooManyNodes,
@@ -232,8 +239,9 @@ fn projected(alloc: Global, protocol: &Protocol, role: Role) -> Result<Local, Pr
     project(alloc, protocol, role)
 }
 
+// The table of `end` shows at its first node that the type has ended.
 #[test]
-fn tables(rt: HostRuntime) -> Result<(), Fail> {
+fn tables_of_mps_table(rt: HostRuntime) -> Result<(), Fail> {
     let table = compile(rt.alloc(), &Local::End)?;
     assert!(rt; matches!(table.expect(table.first()), Expect::End));
     Ok(())
@@ -246,8 +254,9 @@ fn node_after(table: &Table, node: Node, choice: Option<usize>) -> Node
     table.after(node, choice)
 }
 
+// A send is judged where it is expected, and where the type has ended.
 #[test]
-fn verdicts(rt: HostRuntime) -> Result<(), Fail> {
+fn verdicts_of_mps_monitor(rt: HostRuntime) -> Result<(), Fail> {
     let sent = Forward::Send {
         to: b(),
         value: Value::Int(5),
@@ -270,8 +279,9 @@ fn add(arena: &mut Arena, role: Role, act: Act, source: Option<Key>) -> Result<K
     Ok(key)
 }
 
+// One step is the first, the last, and the last of its role; its number, 1, leads to it, and nothing was sent.
 #[test]
-fn steps_with_links(rt: HostRuntime) -> Result<(), Fail> {
+fn steps_of_mps_arena(rt: HostRuntime) -> Result<(), Fail> {
     let mut arena = Arena::new(rt.alloc());
     add(&mut arena, a(), Act::Commit, None)?;
     let key = arena.by_id(StepId::new(1));
@@ -318,22 +328,26 @@ fn set_mark(arena: &mut Arena, key: Key)
     arena.set_mark(key, true);
 }
 
+// In new queues nothing waits. The calls that require more are in the functions below.
 #[test]
-fn queues(rt: HostRuntime) {
+fn queues_of_mps_queues(rt: HostRuntime) {
     let queues = Queues::new();
     assert!(rt; queues.front(a(), b()).is_none());
 }
 
+// A send is put after the others of its pair.
 fn push(queues: &mut Queues, key: Key) {
     queues.push(a(), b(), key);
 }
 
+// The first send that waits is taken off.
 fn take(queues: &mut Queues, arena: &Arena) -> Option<Key>
     requires { AreFronts arena.now.keyed_steps queues.old }
 {
     queues.take(arena, a(), b())
 }
 
+// It is put back in front.
 fn put_back(queues: &mut Queues, arena: &Arena)
     requires fronts { AreFronts arena.now.keyed_steps queues.old }
     requires some { IsSome (last_key None (keys_of (receives 0 1) arena.now.keyed_steps)) }
@@ -341,6 +355,7 @@ fn put_back(queues: &mut Queues, arena: &Arena)
     queues.put_back(arena, a(), b());
 }
 
+// The last send is dropped.
 fn drop_last(queues: &mut Queues, arena: &Arena)
     requires fronts { AreFronts arena.now.keyed_steps queues.old }
     requires some { IsSome (last_key None (keys_of (sends 0 1) arena.now.keyed_steps)) }
@@ -348,8 +363,9 @@ fn drop_last(queues: &mut Queues, arena: &Arena)
     queues.drop_last(arena, a(), b());
 }
 
+// A name is bound to a key, found, and unbound.
 #[test]
-fn stores(rt: HostRuntime) -> Result<(), Fail> {
+fn stores_of_mps_stores(rt: HostRuntime) -> Result<(), Fail> {
     let mut arena = Arena::new(rt.alloc());
     let key = arena.reserve_one()?;
     let name = Name::read(b"x").expect(&rt, "a name");
@@ -388,8 +404,9 @@ fn sent(alloc: Global) -> Result<Session, Fail>
     Ok(session)
 }
 
+// A send is in the history and waits; its undo leaves what the type began with.
 #[test]
-fn sessions(rt: HostRuntime) -> Result<(), Fail> {
+fn sessions_of_mps_session(rt: HostRuntime) -> Result<(), Fail> {
     let mut session = sent(rt.alloc())?;
     assert!(rt; session.issued() == 1 && session.len() == 1 && session.step(0).is_some());
     assert!(rt; session.message(a(), b(), 0).is_some());
@@ -398,8 +415,9 @@ fn sessions(rt: HostRuntime) -> Result<(), Fail> {
     Ok(())
 }
 
+// A return without a mark, a rollback of a step that isn't there, and one of a step that is.
 #[test]
-fn sessions_taken_back(rt: HostRuntime) -> Result<(), Fail> {
+fn steps_taken_back_in_mps_session(rt: HostRuntime) -> Result<(), Fail> {
     let mut session = sent(rt.alloc())?;
     let name = Name::read(b"m").expect(&rt, "a name");
     assert!(rt; matches!(session.back(a(), &name), Err(Refusal::NoMark)));
@@ -409,15 +427,17 @@ fn sessions_taken_back(rt: HostRuntime) -> Result<(), Fail> {
     Ok(())
 }
 
+// A session is the same as itself.
 #[test]
-fn sessions_compared(rt: HostRuntime) -> Result<(), Fail> {
+fn sessions_compared_by_mps_session(rt: HostRuntime) -> Result<(), Fail> {
     let session = sent(rt.alloc())?;
     assert!(rt; same(&session, &session));
     Ok(())
 }
 
+// No types are no session: there are 2 to 8 roles.
 #[test]
-fn sessions_refused(rt: HostRuntime) {
+fn types_refused_by_mps_session(rt: HostRuntime) {
     let none = Session::open(rt.alloc(), Vec::new(rt.alloc()));
     assert!(rt; matches!(none, Err(OpenFault::RoleCount)));
 }
@@ -433,8 +453,9 @@ fn is_unmergeable(fault: ProtocolFault) -> bool {
 
 // ---- rooms and their callers
 
+// A mark is accepted, and is the one entry, which is news, with its command.
 #[test]
-fn rooms(rt: HostRuntime) -> Result<(), Fail> {
+fn rooms_of_mps_room(rt: HostRuntime) -> Result<(), Fail> {
     let alloc = rt.alloc();
     let (names, session) = relay(alloc)?;
     let mut room = Room::open(alloc, names, session);
@@ -462,8 +483,9 @@ fn kept_after<C: Caller>(caller: &mut C, command: Command) -> bool
     }
 }
 
+// A caller keeps the number of an accepted command, and gives commands without a number.
 #[test]
-fn callers(rt: HostRuntime) -> Result<(), Fail> {
+fn callers_of_mps_room(rt: HostRuntime) -> Result<(), Fail> {
     let alloc = rt.alloc();
     let (names, session) = relay(alloc)?;
     let mut caller = Solo::new(Room::open(alloc, names, session), a());
@@ -487,7 +509,7 @@ impl Pause for Once {
     }
 }
 
-// Whether a pass gets its answers: that a step isn't there, and that its journal is empty.
+// Whether a pass gets its answers: that step 9 isn't there, by each kind of call, and that its journal is empty.
 fn passes_answer<R: Wait>(rt: &R, pass: Pass<'_>) -> bool {
     let mut pass = pass;
     let mut pause = Once(0);
@@ -515,8 +537,9 @@ fn first_answers<R: Wait>(rt: &R, cell: &mut Cell) -> bool {
     }
 }
 
+// A pass calls its cell, which gives its passes once, and the room when it is closed.
 #[test]
-fn passes(rt: HostRuntime) -> Result<(), Fail> {
+fn passes_of_mps_cell(rt: HostRuntime) -> Result<(), Fail> {
     let alloc = rt.alloc();
     let (names, session) = relay(alloc)?;
     let mut cell = Cell::open(alloc, names, session)?;
@@ -538,12 +561,14 @@ fn found(busy: Busy) -> u64 {
     busy.found
 }
 
+// The room of a cell that is closed with what a pass left.
 fn close_with(cell: Cell, leave: Leave) -> Option<Room>
     requires { leave.cell ≡ cell.cell }
 {
     cell.close_with(leave)
 }
 
+// What two passes of a cell have seen is compared.
 fn compare(first: &mut Pass<'_>, second: &mut Pass<'_>) -> Ordering
     requires { second.old.cell ≡ first.old.cell }
 {
@@ -552,8 +577,9 @@ fn compare(first: &mut Pass<'_>, second: &mut Pass<'_>) -> Ordering
 
 // ---- lines
 
+// Lines of commands, of scripts, of conversations and of joins are read, or are `Bad`.
 #[test]
-fn lines_read(rt: HostRuntime) -> Result<(), Fail> {
+fn lines_read_by_mps_line(rt: HostRuntime) -> Result<(), Fail> {
     let alloc = rt.alloc();
     let (roles, _) = relay(alloc)?;
     assert!(rt; matches!(read_command(alloc, &roles, b"undo 3"), Ok(Command::Undo(_))));
@@ -576,8 +602,9 @@ fn line_of(alloc: Global, roles: &Roles, command: &Command) -> Result<Vec<u8>, A
     write_command(alloc, roles, command)
 }
 
+// A command, a kept answer and a reply are written.
 #[test]
-fn lines_written(rt: HostRuntime) -> Result<(), Fail> {
+fn lines_written_by_mps_line(rt: HostRuntime) -> Result<(), Fail> {
     let alloc = rt.alloc();
     let (roles, _) = relay(alloc)?;
     let undo = line_of(alloc, &roles, &Command::Undo(StepId::new(3)))?;
@@ -590,8 +617,9 @@ fn lines_written(rt: HostRuntime) -> Result<(), Fail> {
     Ok(())
 }
 
+// The codes of replies that no room gives, as in FORMATS; and a reply that is no refusal is read.
 #[test]
-fn codes(rt: HostRuntime) -> Result<(), Fail> {
+fn codes_of_mps_line(rt: HostRuntime) -> Result<(), Fail> {
     assert!(rt; Reply::BadLine.code() == 14 && Reply::NoSession.code() == 15);
     assert!(rt; Reply::NoRole.code() == 16 && Reply::Taken.code() == 17);
     assert!(rt; Reply::Number.code() == 19);
@@ -610,8 +638,9 @@ fn codes(rt: HostRuntime) -> Result<(), Fail> {
 
 // ---- devices and streams
 
+// Two bytes are read from std's reader, and written to its writer.
 #[test]
-fn devices(rt: HostRuntime) -> Result<(), Fail> {
+fn devices_of_mps_dev(rt: HostRuntime) -> Result<(), Fail> {
     let mut buf = [0u8; 4];
     let mut source = OverRead::new(b"ab".as_slice());
     assert!(rt; source.read(&mut buf) == Ok(2));
@@ -620,8 +649,9 @@ fn devices(rt: HostRuntime) -> Result<(), Fail> {
     Ok(())
 }
 
+// A line comes out of the bytes that are fed. mps_wire names these types of mps_lines too.
 #[test]
-fn pieces_of_lines(rt: HostRuntime) -> Result<(), Fail> {
+fn lines_of_mps_lines_named_by_mps_wire(rt: HostRuntime) -> Result<(), Fail> {
     let mut lines = Lines::new(rt.alloc());
     lines.feed(b"a\n\x80")?;
     match lines.next_line()? {
@@ -633,8 +663,9 @@ fn pieces_of_lines(rt: HostRuntime) -> Result<(), Fail> {
     Ok(())
 }
 
+// A script of one line runs on a session, and makes one entry.
 #[test]
-fn scripts(rt: HostRuntime) -> Result<(), Fail> {
+fn scripts_of_mps_wire(rt: HostRuntime) -> Result<(), Fail> {
     let alloc = rt.alloc();
     let (names, session) = relay(alloc)?;
     let mut reader = Pieces::new(
@@ -649,8 +680,9 @@ fn scripts(rt: HostRuntime) -> Result<(), Fail> {
     Ok(())
 }
 
+// A script runs on a session of these types, and ends where its answer finds no room.
 #[test]
-fn scripts_of_types(rt: HostRuntime) -> Result<(), Fail> {
+fn scripts_of_types_in_mps_wire(rt: HostRuntime) -> Result<(), Fail> {
     let alloc = rt.alloc();
     let (names, _) = relay(alloc)?;
     let types = vec![in alloc; Local::End, Local::End, Local::End]?;
@@ -661,8 +693,9 @@ fn scripts_of_types(rt: HostRuntime) -> Result<(), Fail> {
     Ok(())
 }
 
+// A conversation of one numbered line runs to its end.
 #[test]
-fn conversations(rt: HostRuntime) -> Result<(), Fail> {
+fn conversations_of_mps_wire(rt: HostRuntime) -> Result<(), Fail> {
     let alloc = rt.alloc();
     let (names, session) = relay(alloc)?;
     let mut caller = Solo::new(Room::open(alloc, names, session), a());
@@ -688,8 +721,9 @@ fn two(alloc: Global) -> Result<Hub, Fail>
     Ok(Hub::of(alloc, &names, sessions)?)
 }
 
+// A desk of two sessions gives no pass of session 3, nor of a role z.
 #[test]
-fn desks(rt: HostRuntime) -> Result<(), Fail> {
+fn desks_of_mps_hub(rt: HostRuntime) -> Result<(), Fail> {
     let alloc = rt.alloc();
     let mut hub = two(alloc)?;
     let name = Name::read(b"z").expect(&rt, "a name");
@@ -699,8 +733,9 @@ fn desks(rt: HostRuntime) -> Result<(), Fail> {
     Ok(())
 }
 
+// A hub of one session gives its room back when it is closed.
 #[test]
-fn hubs(rt: HostRuntime) -> Result<(), Fail> {
+fn hubs_of_mps_hub(rt: HostRuntime) -> Result<(), Fail> {
     let alloc = rt.alloc();
     let types = [Local::End, Local::End, Local::End];
     let (names, _) = relay(alloc)?;

@@ -24,6 +24,7 @@ pub(crate) enum Halt {
 impl From<AllocError> for Halt {
     ghost from_gives = { λ _ e. e ≡ Memory };
 
+    // A failed allocation stops the reading as lack of memory.
     fn from(_e: AllocError) -> Halt {
         Halt::Memory
     }
@@ -32,6 +33,7 @@ impl From<AllocError> for Halt {
 impl<T: Drop> From<AllocFailed<T>> for Halt {
     ghost from_gives = { λ _ e. e ≡ Memory };
 
+    // A failed allocation stops the reading as lack of memory; what it gives back is dropped.
     fn from(_e: AllocFailed<T>) -> Halt {
         Halt::Memory
     }
@@ -46,7 +48,7 @@ pub(crate) struct Lexeme<'a> {
 }
 
 impl Lexeme<'_> {
-    /// The fault of that kind that begins at the token.
+    /// Why reading stops: a fault of that kind, which begins at the token.
     pub(crate) fn fault(&self, kind: TextKind) -> Halt
         ensures { result ≡ Halt.At self.now.left kind }
     {
@@ -61,7 +63,8 @@ pub(crate) struct Cursor<'a> {
     pub(crate) nodes: usize,
 }
 
-/// The next token, after which the cursor stands then.
+/// Takes the next token, after which the cursor stands then. Where no token comes next it is a fault, and the cursor
+/// stays.
 pub(crate) fn take<'a>(cursor: &mut Cursor<'a>) -> Result<Lexeme<'a>, Halt>
     ensures next { Takes result cursor.old cursor.new }
     ensures nodes { cursor.new.nodes ≡ cursor.old.nodes }
@@ -71,7 +74,7 @@ pub(crate) fn take<'a>(cursor: &mut Cursor<'a>) -> Result<Lexeme<'a>, Halt>
     Ok(next)
 }
 
-/// The next token.
+/// The next token, after blanks. The end of the text is `Unexpected`, and what begins no token is a malformed `Word`.
 #[tactic(auto, unfolding(crate::specs::Private::Lexing::lexeme_at))]
 pub(crate) fn lexeme_at(bytes: &[u8]) -> Result<Lexeme<'_>, Halt>
     ensures { Gives plain_lexeme result (lexeme_at bytes.now) }
@@ -79,7 +82,8 @@ pub(crate) fn lexeme_at(bytes: &[u8]) -> Result<Lexeme<'_>, Halt>
     lexeme_of(unblanked(bytes))
 }
 
-// The token in front of bytes that begin with no blank.
+// The token in front of bytes that begin with no blank. Where there are none it is `Unexpected`, and what begins no
+// token is a malformed `Word`.
 #[tactic(auto, unfolding(crate::specs::Private::Lexing::lexeme_of))]
 fn lexeme_of(bytes: &[u8]) -> Result<Lexeme<'_>, Halt>
     ensures { Gives plain_lexeme result (lexeme_of bytes.now) }
@@ -135,14 +139,15 @@ fn token_len(bytes: &[u8]) -> usize
     }
 }
 
-// Whether the byte is punctuation alone.
+// Whether the byte is a token by itself.
 fn is_punctuation(byte: u8) -> bool
     ensures { result ≡ is_punctuation_byte byte }
 {
     byte == b':' || byte == b';' || byte == b'.' || byte == b',' || byte == b'{' || byte == b'}'
 }
 
-// How many bytes the word in front takes, 0 where no well-formed word stands there.
+// How many bytes the word in front takes, 0 where no well-formed word stands there. What goes on too long is no word
+// either.
 #[tactic(auto, unfolding(crate::specs::Private::Lexing::word_len))]
 fn word_len(bytes: &[u8]) -> usize
     ensures len { result ≡ word_len bytes.now }
@@ -152,7 +157,7 @@ fn word_len(bytes: &[u8]) -> usize
     if is_word(&bytes[..len]) { len } else { 0 }
 }
 
-// How many bytes the longest run of word bytes in front takes.
+// How many bytes in front may stand in a word, up to the first that may not.
 fn run_len(bytes: &[u8]) -> usize
     ensures len { result ≡ run_len bytes.now }
     ensures within { result ≤ length bytes.now }
@@ -174,21 +179,21 @@ fn is_word_byte(byte: u8) -> bool
     byte.is_ascii_lowercase() || byte.is_ascii_digit() || byte == b'_' || byte.is_ascii_uppercase()
 }
 
-// Whether the bytes are a well-formed word.
+// Whether the bytes are a well-formed word: at most 32, and of the form of a name or of a variable.
 fn is_word(bytes: &[u8]) -> bool
     ensures { result ≡ is_word bytes.now }
 {
     bytes.len() <= MAX_NAME && (is_small_word(bytes) || is_capital_word(bytes))
 }
 
-// Whether they are small letters, digits and `_`, the first a letter.
+// Whether the bytes are small letters, digits and `_`, the first a letter: names and reserved words look so.
 fn is_small_word(bytes: &[u8]) -> bool
     ensures { result ≡ is_small_word bytes.now }
 {
     begins_small(bytes) && are_name_bytes(bytes)
 }
 
-// Whether a small letter stands in front.
+// Whether a small letter stands in front of the bytes.
 fn begins_small(bytes: &[u8]) -> bool
     ensures { result ≡ first_is is_lower bytes.now }
 {
@@ -198,21 +203,21 @@ fn begins_small(bytes: &[u8]) -> bool
     }
 }
 
-// Whether they are small letters, digits and `_`.
+// Whether the bytes are small letters, digits and `_`.
 fn are_name_bytes(bytes: &[u8]) -> bool
     ensures { result ≡ list_all is_name_byte bytes.now }
 {
     bytes.iter().all(|byte| byte.is_ascii_lowercase() || byte.is_ascii_digit() || *byte == b'_')
 }
 
-// Whether they are capital letters, digits and `_`, the first a letter.
+// Whether the bytes are capital letters, digits and `_`, the first a letter: variables look so.
 fn is_capital_word(bytes: &[u8]) -> bool
     ensures { result ≡ is_capital_word bytes.now }
 {
     begins_capital(bytes) && are_variable_bytes(bytes)
 }
 
-// Whether a capital letter stands in front.
+// Whether a capital letter stands in front of the bytes.
 fn begins_capital(bytes: &[u8]) -> bool
     ensures { result ≡ first_is is_upper bytes.now }
 {
@@ -222,14 +227,14 @@ fn begins_capital(bytes: &[u8]) -> bool
     }
 }
 
-// Whether they are capital letters, digits and `_`.
+// Whether the bytes are capital letters, digits and `_`.
 fn are_variable_bytes(bytes: &[u8]) -> bool
     ensures { result ≡ list_all is_variable_byte bytes.now }
 {
     bytes.iter().all(|byte| byte.is_ascii_uppercase() || byte.is_ascii_digit() || *byte == b'_')
 }
 
-/// The name of these bytes.
+/// The name that the bytes spell, if they spell one; a reserved word is none.
 pub(crate) fn name_of(bytes: &[u8]) -> Option<Name>
     ensures { MatchOption result (is_name bytes.now ≡ false)
         (λ name. (is_name bytes.now ≡ true) × (name ≡ bytes.now)) }
@@ -237,7 +242,7 @@ pub(crate) fn name_of(bytes: &[u8]) -> Option<Name>
     Name::read(bytes)
 }
 
-/// The variable of these bytes.
+/// The variable that the bytes spell, if they spell one.
 pub(crate) fn variable_of(bytes: &[u8]) -> Option<VarName>
     ensures { MatchOption result (is_variable bytes.now ≡ false)
         (λ name. (is_variable bytes.now ≡ true) × (name ≡ bytes.now)) }

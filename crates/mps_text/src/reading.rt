@@ -32,8 +32,8 @@ use std::alloc;
 /// How many bytes a protocol text may have.
 pub const MAX_TEXT_BYTES: usize = 65536;
 
-/// Reads a protocol that takes all of the text: `roles`, the 2 to 8 roles, `;`, and what they say
-/// to each other. Whether the roles differ and are known is left to `mps_global::check`.
+/// Reads a protocol that takes all of the text: `roles`, the 2 to 8 roles, `;`, and what they say to each other.
+/// Whether the roles differ and are known is left to `mps_global::check`. Lack of memory is reported at byte 0.
 pub fn read_protocol(alloc: alloc::Global, text: &[u8]) -> Result<Protocol, TextFault>
     // What is read is spelled so.
     ensures read { IfOk result (λ p. IsWithinLimits text.now (plain p.body)
@@ -57,6 +57,7 @@ pub fn read_protocol(alloc: alloc::Global, text: &[u8]) -> Result<Protocol, Text
             kind: TextKind::Memory,
         }),
         Err(Halt::At(left, kind)) => Err(TextFault {
+            // so many bytes are left from the fault on
             at: text.len().saturating_sub(left),
             kind,
         }),
@@ -92,7 +93,7 @@ pub fn first_tokens()
         ≡ map (λ p. (first_token_of p.node, level p)) (places [] tree) }
 {}
 
-// The protocol that takes all of the text.
+// Reads the protocol that takes all of the text, of at most 256 nodes.
 fn protocol_of(alloc: alloc::Global, text: &[u8]) -> Result<Protocol, Halt>
     ensures runs { ReadsAll text.now result }
     ensures tokens { IfOk result (λ p. tokens_in (lexed text.now)
@@ -111,7 +112,7 @@ fn protocol_of(alloc: alloc::Global, text: &[u8]) -> Result<Protocol, Halt>
     Ok(Protocol { roles, body })
 }
 
-// All of the roles, and `;`.
+// Reads `roles`, the 2 to 8 roles, and `;`.
 fn heading_at(alloc: alloc::Global, cursor: &mut Cursor<'_>) -> Result<Vec<Name>, Halt>
     ensures runs { Reads (Token (codes "roles") ∷ AName ∷ AName ∷ Roles 6 ∷ []) (λ _. [])
         cursor.old cursor.new result }
@@ -131,7 +132,7 @@ fn heading_at(alloc: alloc::Global, cursor: &mut Cursor<'_>) -> Result<Vec<Name>
     Ok(roles)
 }
 
-// As many more roles as there is room, and `;`.
+// Reads more roles, at most as many as there is room for, and `;`. After an error some of them may stand in `roles`.
 fn roles_at(room: usize, roles: &mut Vec<Name>, cursor: &mut Cursor<'_>) -> Result<(), Halt>
     ensures runs { Reads (Roles room ∷ []) (λ _. []) cursor.old cursor.new result }
     ensures tokens { OnOk result (roles.old.items ++ tokens_from cursor.old
@@ -158,7 +159,7 @@ fn roles_at(room: usize, roles: &mut Vec<Name>, cursor: &mut Cursor<'_>) -> Resu
     }
 }
 
-// A global type whose root has that depth.
+// Reads a global type whose root has that depth.
 #[cycle(reading)]
 fn global_at(alloc: alloc::Global, depth: usize, cursor: &mut Cursor<'_>) -> Result<Global, Halt>
     ensures runs { Reads (Node depth ∷ []) (λ _. []) cursor.old cursor.new result }
@@ -196,7 +197,7 @@ fn global_at(alloc: alloc::Global, depth: usize, cursor: &mut Cursor<'_>) -> Res
     }
 }
 
-// Branches whose types have roots of that depth, and `}`.
+// Reads branches whose types have roots of that depth, one at least, and `}`.
 #[cycle(reading)]
 fn branches_at(
     alloc: alloc::Global,
@@ -230,7 +231,8 @@ pub(crate) enum First {
     Var(VarName),
 }
 
-// The first token of a global type whose root has that depth.
+// Reads the first token of a global type whose root has that depth, and counts the node. `Unexpected` comes before
+// `TooManyNodes`, and that before `TooDeep`.
 #[tactic(auto, using(crate::proofs::Tokens::first_is))]
 fn node_at(depth: usize, cursor: &mut Cursor<'_>) -> Result<First, Halt>
     ensures runs { Reads (Node depth ∷ []) (behind_first depth) cursor.old cursor.new result }
@@ -252,7 +254,7 @@ fn node_at(depth: usize, cursor: &mut Cursor<'_>) -> Result<First, Halt>
     }
 }
 
-// How a global type begins with the token.
+// How a global type begins whose first token this is; `None` where none begins so.
 #[tactic(auto, unfolding(crate::specs::Private::Reading::first_of))]
 fn first_of(token: &[u8]) -> Option<First>
     ensures { result ≡ first_of token.now }
@@ -269,7 +271,7 @@ fn first_of(token: &[u8]) -> Option<First>
     }
 }
 
-// What stands after the sender: the receiver, and a sort and `.`, or `{`.
+// Reads what stands after the sender: `->`, the receiver, and a sort and `.`, or `{`. For `{` there is no sort.
 fn exchange_at(cursor: &mut Cursor<'_>) -> Result<(Name, Option<Sort>), Halt>
     ensures runs { (depth : ℕ) → Reads (Token (codes "->") ∷ AName ∷ Exchange depth ∷ [])
         (λ x. behind_exchange depth x.1) cursor.old cursor.new result }
@@ -284,7 +286,7 @@ fn exchange_at(cursor: &mut Cursor<'_>) -> Result<(Name, Option<Sort>), Halt>
     Ok((receiver, sort))
 }
 
-// What stands after the receiver: `:`, a sort and `.`, or `{`.
+// Reads what stands after the receiver: `:`, a sort and `.`, or `{`. For `{` there is no sort.
 fn payload_at(cursor: &mut Cursor<'_>) -> Result<Option<Sort>, Halt>
     ensures runs { (depth : ℕ) → Reads (Exchange depth ∷ []) (behind_exchange depth)
         cursor.old cursor.new result }
@@ -304,7 +306,7 @@ fn payload_at(cursor: &mut Cursor<'_>) -> Result<Option<Sort>, Halt>
     }
 }
 
-// Whether `,` and another branch stand after a branch, and not `}`.
+// Reads what stands after a branch, `,` or `}`, and says whether another branch comes.
 #[tactic(auto, using(crate::proofs::Tokens::separator_is))]
 fn another_at(cursor: &mut Cursor<'_>) -> Result<bool, Halt>
     ensures runs { (depth : ℕ) → Reads (Others depth ∷ []) (behind_branch depth)
@@ -320,7 +322,7 @@ fn another_at(cursor: &mut Cursor<'_>) -> Result<bool, Halt>
     }
 }
 
-// Which of two tokens it is.
+// Whether the token is the first of two tokens or the second; `None` where it is neither.
 #[tactic(auto, unfolding(crate::specs::Private::Reading::which))]
 fn which(token: &[u8], this: &[u8], that: &[u8]) -> Option<bool>
     ensures { result ≡ which this.now that.now token.now }
@@ -334,7 +336,7 @@ fn which(token: &[u8], this: &[u8], that: &[u8]) -> Option<bool>
     }
 }
 
-// The sort that the next token has to name.
+// Reads the next token, which has to be a sort.
 #[tactic(auto, using(crate::proofs::Tokens::sort_is))]
 fn sort_at(cursor: &mut Cursor<'_>) -> Result<Sort, Halt>
     ensures runs { Reads (ASort ∷ []) (λ _. []) cursor.old cursor.new result }
@@ -349,7 +351,7 @@ fn sort_at(cursor: &mut Cursor<'_>) -> Result<Sort, Halt>
     }
 }
 
-// The sort that the token names.
+// The sort whose word the token is, if it is one.
 #[tactic(auto, unfolding(crate::specs::Private::Reading::sort_of))]
 fn sort_of(token: &[u8]) -> Option<Sort>
     ensures { result ≡ sort_of token.now }
@@ -362,7 +364,7 @@ fn sort_of(token: &[u8]) -> Option<Sort>
     }
 }
 
-// The next token, which has to be a name.
+// Reads the next token, which has to be a name.
 fn name_at(cursor: &mut Cursor<'_>) -> Result<Name, Halt>
     ensures runs { Reads (AName ∷ []) (λ _. []) cursor.old cursor.new result }
     ensures tokens { IfOk result (λ name. tokens_from cursor.old ≡ name ∷ tokens_from cursor.new) }
@@ -376,7 +378,7 @@ fn name_at(cursor: &mut Cursor<'_>) -> Result<Name, Halt>
     }
 }
 
-// The next token, which has to be a variable.
+// Reads the next token, which has to be a variable.
 fn variable_at(cursor: &mut Cursor<'_>) -> Result<VarName, Halt>
     ensures runs { Reads (AVariable ∷ []) (λ _. []) cursor.old cursor.new result }
     ensures tokens { IfOk result (λ name. tokens_from cursor.old ≡ name ∷ tokens_from cursor.new) }
@@ -390,7 +392,7 @@ fn variable_at(cursor: &mut Cursor<'_>) -> Result<VarName, Halt>
     }
 }
 
-// Takes this token, which has to be the next.
+// Reads the next token, which has to be this one.
 fn expect(cursor: &mut Cursor<'_>, token: &[u8]) -> Result<(), Halt>
     ensures runs { Reads (Token token.now ∷ []) (λ _. []) cursor.old cursor.new result }
     ensures tokens { OnOk result (tokens_from cursor.old ≡ token.now ∷ tokens_from cursor.new) }
@@ -404,7 +406,7 @@ fn expect(cursor: &mut Cursor<'_>, token: &[u8]) -> Result<(), Halt>
     }
 }
 
-// Whether nothing but blanks is left, after a whole protocol.
+// Sees that nothing but blanks is left after a whole protocol. A token that is left is `Trailing`.
 fn ended(cursor: &Cursor<'_>) -> Result<(), Halt>
     ensures runs { Ends cursor.now result }
     ensures tokens { OnOk result (tokens_from cursor.now ≡ []) }

@@ -16,7 +16,7 @@ use mps_base::{Name, push_token};
 use mps_global::{Branches, Global, Protocol};
 use std::alloc::{self, AllocError};
 
-/// Writes a protocol as its tokens with one space between two.
+/// Writes a protocol, which may have faults, as its tokens with one space between two, into a buffer of its own.
 pub fn write_protocol(alloc: alloc::Global, protocol: &Protocol) -> Result<Vec<u8>, AllocError>
     ensures text { IfOk result (λ text. text.items
         ≡ protocol_text protocol.now.roles.items (plain protocol.now.body)) }
@@ -42,7 +42,7 @@ pub fn written_reads()
         → SpellsOnly (protocol_text roles tree) roles tree }
 {}
 
-// The names, one after the other.
+// Writes the names at the end of `out`, with one space between two tokens. After an error some of them may stand there.
 fn write_names(names: &[Name], out: &mut Vec<u8>) -> Result<(), AllocError>
     ensures text { OnOk result (out.new.items ≡ with_tokens out.old.items names.now) }
     ensures named { OnOk result (AllByRecursion IsName names.now) }
@@ -61,7 +61,8 @@ enum Todo<'a> {
     Others(&'a Branches),
 }
 
-// A global type, in a loop, so that no tree runs the stack out, however deep it is.
+// Writes a global type at the end of `out`, in a loop, so that no tree runs the stack out, however deep it is. After an
+// error a part of it may stand there.
 #[tactic(auto, using(crate::proofs::Written::left_more, crate::proofs::Written::weight_more))]
 fn write_tree(alloc: alloc::Global, tree: &Global, out: &mut Vec<u8>) -> Result<(), AllocError>
     ensures text { OnOk result
@@ -76,7 +77,7 @@ fn write_tree(alloc: alloc::Global, tree: &Global, out: &mut Vec<u8>) -> Result<
     Ok(())
 }
 
-// The next that is to be written, up to what then waits.
+// Writes the front of what is next, up to the types and branches in it, and puts these on the stack of what waits.
 fn write_next<'a>(
     next: Todo<'a>,
     waiting: &mut Vec<Todo<'a>>,
@@ -96,7 +97,7 @@ fn write_next<'a>(
     }
 }
 
-// What stands before the types in a node, which then wait.
+// Writes the front of a node, up to the type or the branches in it, which are put on the stack of what waits.
 #[tactic(auto, using(crate::proofs::Written::left_more, crate::proofs::Written::weight_more))]
 fn write_node<'a>(
     node: &'a Global,
@@ -144,7 +145,7 @@ fn write_node<'a>(
     }
 }
 
-// The first branch after `{`, or `}`.
+// Writes the front of the first branch, up to its type, which waits, as do the others; or `}` where there is no branch.
 #[tactic(auto, using(crate::proofs::Written::left_more, crate::proofs::Written::weight_more, crate::proofs::Written::branches_more))]
 fn write_branches<'a>(
     branches: &'a Branches,
@@ -174,7 +175,7 @@ fn write_branches<'a>(
     }
 }
 
-// The next branch after another one, or `}`.
+// Writes what comes after a branch: `,` and the front of the next one, up to its type, or `}` where there is none.
 fn write_others<'a>(
     branches: &'a Branches,
     waiting: &mut Vec<Todo<'a>>,
@@ -194,7 +195,7 @@ fn write_others<'a>(
     write_branches(branches, waiting, out)
 }
 
-// The sender and the receiver.
+// Writes the sender, `->` and the receiver. After an error some of these may stand in `out`.
 fn write_pair(sender: &Name, receiver: &Name, out: &mut Vec<u8>) -> Result<(), AllocError>
     ensures text { OnOk result (out.new.items
         ≡ with_tokens out.old.items (sender.now ∷ codes "->" ∷ receiver.now ∷ [])) }

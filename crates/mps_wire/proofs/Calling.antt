@@ -59,16 +59,9 @@ module _ {C : Type 0} (caller : Ghosts C) where
       (λ (short : length line ≤ most_kept). subst (λ (l : List ℕ). RepliesTo caller l c reply d) (sym (front_short line short)) r)
       (cases_lt most_kept (length line))
 
-  front_line : (line : List ℕ) (c : C) (text : List ℕ) (d : C) → RepliesInText caller line c text d → RepliesInText caller (front line) c text d
-  front_line line c text d a = record { reply = a.reply; replies = front_reply line c d a.reply a.replies; spelled = a.spelled }
-
-  -- a line that was answered, by its front
-  module _ (line kept : List ℕ) (is : front line ≡ kept) (c d : C) (taken taken' : Option (List ℕ)) where
-    pub wholly_front : IsWholly (ConversesLine caller) line c d taken taken' → IsWholly (ConversesLine caller) kept c d taken taken'
-    wholly_front w = grind (arith, front_line line c w.text d w.line_is.line_is)
-
-    pub broken_front : IsBrokenOff (ConversesBrokenOff caller) line c d taken taken' → IsBrokenOff (ConversesBrokenOff caller) kept c d taken taken'
-    broken_front w = grind (arith, front_reply line c d w.line_is.reply w.line_is.replies)
+  -- the same, of a front that is known
+  pub front_replies : (line kept : List ℕ) → front line ≡ kept → (c d : C) (reply : Reply) → RepliesTo caller line c reply d → RepliesTo caller kept c reply d
+  front_replies line kept is c d reply r = subst (λ (l : List ℕ). RepliesTo caller l c reply d) is (front_reply line c d reply r)
 
   whole_reply : (line : List ℕ) (c d : C) (reply : Reply) → RepliesTo caller (front line) c reply d → RepliesTo caller line c reply d
   whole_reply line c d reply r =

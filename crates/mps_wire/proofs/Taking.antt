@@ -5,18 +5,10 @@ use Rattle.std.proofs.lemmas.List.{take_rest, take_more, drop-drop, take-append-
 use Rattle.mps_lines.specs.Lines.{HasNoBreak, ended, front}
 use Rattle.mps_lines.proofs.Splitting.{split_ended}
 use Rattle.mps_wire.specs.Answers.{Answering, AnswersBytes, AnswersBrokenOff, AnswersLines, BreaksOffInLast, OfWholeLines}
-use Rattle.mps_wire.specs.Private.Endings.{IsWholly, IsBrokenOff, TakesOn, TakesBrokenOff, begun_or}
+use Rattle.mps_wire.specs.Private.Endings.{IsWholly, IsBrokenOff, TakesOn, TakesBrokenOff}
 use Rattle.mps_wire.proofs.Answering.{GoesByFront, answered_more, answered_line}
 use Rattle.mps_wire.proofs.Bytes.{Appends-trans, Appends-none}
 use Rattle.mps_wire.proofs.Turning.{split_on}
-
--- the piece that came whole, after no line that has begun
-pub begun_none : (line piece : List ℕ) → length line ≡ 0 → begun_or line piece ≡ piece
-begun_none line piece e = grind arith
-
--- a line that has begun
-pub begun_some : (line piece : List ℕ) → (length line ≡ 0 → ⊥) → begun_or line piece ≡ line
-begun_some line piece some = grind arith
 
 -- a whole answer is one that breaks off at its end
 abbrev pub IsWholeBroken : {S : Type 0} → Answering S → Answering S → Type 0

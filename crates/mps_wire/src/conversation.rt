@@ -3,12 +3,11 @@ ghost use Rattle.std.specs.Prelude.{◌≡◌, ◌+◌, ◌<◌, ◌≤◌, ◌^
 ghost use Rattle.std.specs.Prelude.{false};
 ghost use Rattle.mps_command.specs.declared.answer.Answer.{Answer as Response};
 ghost use Rattle.mps_command.specs.declared.command.Command.{Command as Asked};
-ghost use Rattle.mps_line.specs.Replies.{SpellsReply};
-ghost use Rattle.mps_lines.specs.Lines.{ended, front, most_kept};
+ghost use Rattle.mps_lines.specs.Lines.{most_kept};
 ghost use Rattle.mps_wire.specs.Conversations.{RepliesTo, ConversesLine, ConversesBrokenOff, reply_of};
 ghost use Rattle.mps_wire.specs.declared.conversation.Broken.TheVariants.{Memory as OutOfMemory, Untold as MayNot};
 ghost use Rattle.mps_wire.specs.Endings.{EndedAs};
-ghost use Rattle.mps_wire.specs.Private.Endings.{TurnedTo, IsBrokenOff, IsWholly, TakesOn, TakesBrokenOff, begun_or};
+ghost use Rattle.mps_wire.specs.Private.Endings.{TurnedTo, IsBrokenOff, IsWholly, TakesOn, TakesBrokenOff};
 ghost use Rattle.mps_wire.specs.Private.Endings.{failed_by};
 ghost use Rattle.mps_dev.specs.Reads.{max_reads};
 ghost use Rattle.mps_wire.specs.Runs.{Going};
@@ -19,7 +18,7 @@ use crate::sending::send_all;
 use mps_dev::{Failed, MAX_READS, Sink, Source};
 use mps_lines::{keep, line_end};
 use mps_room::Caller;
-use std::alloc::{AllocError, Global};
+use std::alloc::{AllocError, AllocFailed, Global};
 use thiserror::Error;
 
 /// How many bytes a conversation asks for at a time.
@@ -56,30 +55,18 @@ pub enum Broken {
 impl From<AllocError> for Broken {
     ghost from_gives = { λ _ e. e ≡ OutOfMemory };
 
+    // A failed allocation is `Memory`.
     fn from(_e: AllocError) -> Broken {
         Broken::Memory
     }
 }
 
-// Adds to a line that has begun what comes of it.
-fn keep_begun(line: &mut Vec<u8>, piece: &[u8]) -> Result<(), AllocError>
-    requires { length line.old.items ≤ most_kept }
-    ensures { OnOk result (front (begun_or line.new.items piece.now) ≡ front (line.old.items ++ piece.now)) }
-{
-    if line.is_empty() {
-        return Ok(());
-    }
-    keep(line, piece)
-}
+impl<T: Drop> From<AllocFailed<T>> for Broken {
+    ghost from_gives = { λ _ e. e ≡ OutOfMemory };
 
-// The line that has begun, or else the one that came whole, which is answered where it stands.
-fn begun<'a>(line: &'a [u8], piece: &'a [u8]) -> &'a [u8]
-    ensures { result.now ≡ begun_or line.now piece.now }
-{
-    if line.is_empty() {
-        return piece;
+    fn from(_e: AllocFailed<T>) -> Broken {
+        Broken::Memory
     }
-    line
 }
 
 // A conversation while it goes on.
@@ -93,19 +80,8 @@ struct Conversation {
 }
 
 impl Conversation {
-    // Puts the text of the reply, with an LF, in place of the one before.
-    fn put_reply<C: Caller>(&mut self, caller: &C, outcome: Outcome) -> Result<(), AllocError>
-        ensures line { self.new.line.items ≡ self.old.line.items }
-        ensures text { OnOk result ((text : List ℕ) × SpellsReply text (reply_of outcome (C.kept caller.now))
-            × (self.new.text.items ≡ ended text)) }
-    {
-        self.text.clear();
-        write_outcome(caller, &outcome, &mut self.text)?;
-        self.text.push(b'\n')?;
-        Ok(())
-    }
-
-    // Writes the reply to a line, if the caller says that it may be told.
+    // Writes the reply to a line, if the caller says that it may be told. Its text is made first, so nothing is written
+    // where memory runs out.
     fn tell<C: Caller, W: Sink>(
         &mut self,
         caller: &C,
@@ -125,7 +101,9 @@ impl Conversation {
             (W.taken writer.new)) }
         ensures untold { result ≡ Err MayNot → C.may_tell caller.now ≡ false }
     {
-        self.put_reply(caller, outcome)?;
+        self.text.clear();
+        write_outcome(caller, &outcome, &mut self.text)?;
+        self.text.push(b'\n')?;
         if !caller.may_tell() {
             return Err(Broken::Untold);
         }
@@ -135,7 +113,8 @@ impl Conversation {
         }
     }
 
-    // Takes the next bytes, and answers each line that they end, before the next.
+    // Takes the next bytes, and answers each line that they end before it looks at the next one. A rest that no LF ends
+    // is kept.
     fn feed<C: Caller, W: Sink>(
         &mut self,
         caller: &mut C,
@@ -157,8 +136,13 @@ impl Conversation {
         let mut rest = bytes;
         while let Some(k) = line_end(rest) {
             let piece = &rest[..k];
-            keep_begun(&mut self.line, piece)?;
-            let outcome = take_line(self.alloc, caller, begun(self.line.as_slice(), piece));
+            let outcome = if self.line.is_empty() {
+                // it came whole, and is answered where it stands
+                take_line(self.alloc, caller, piece)
+            } else {
+                keep(&mut self.line, piece)?;
+                take_line(self.alloc, caller, self.line.as_slice())
+            };
             self.tell(&*caller, writer, outcome)?;
             self.line.clear();
             rest = &rest[k + 1..];
@@ -207,11 +191,11 @@ fn read_and_answer<C: Caller, R: Source, W: Sink>(
 /// Runs each line of the reader as a command of the caller, and writes its answer before it looks at the next line.
 ///
 /// A line may begin with a number and a space (`read_numbered`). A client that lost an answer sends the same line
-/// again: the command isn't run a second time, and its answer is written again. At the end a rest that no LF ends
-/// isn't run. The reader is asked for `CONVERSATION_BLOCK` bytes at a time, `MAX_READS` times at most. After `Closed`, `ReadFault`
-/// or `Turns` each whole line that was read is answered; after `WriteFault` or `Memory` the first of them are, and the
-/// answer of the last of these may break off, or not be written at all. After `Untold` the answer of the last isn't
-/// written, since the caller says that it may not be told.
+/// again: the command isn't run a second time, and its answer is written again. At the end a rest that no LF ends isn't
+/// run. The reader is asked for `CONVERSATION_BLOCK` bytes at a time, `MAX_READS` times at most. After `Closed`,
+/// `ReadFault` or `Turns` each whole line that was read is answered; after `WriteFault` or `Memory` the first of them
+/// are, and the answer of the last of these may break off, or not be written at all. After `Untold` the answer of the
+/// last isn't written, since the caller says that it may not be told.
 pub fn converse<C: Caller, R: Source, W: Sink>(
     alloc: Global,
     caller: &mut C,
@@ -239,9 +223,14 @@ pub fn converse<C: Caller, R: Source, W: Sink>(
         return Ending::Memory;
     };
     for _ in 0..MAX_READS {
-        match read_and_answer(caller, reader, writer, &mut going, block.as_mut_slice()) {
-            Some(ending) => return ending,
-            None => {}
+        if let Some(ending) = read_and_answer(
+            caller,
+            reader,
+            writer,
+            &mut going,
+            block.as_mut_slice(),
+        ) {
+            return ending;
         }
     }
     Ending::Turns

@@ -8,5 +8,6 @@ pub fn worked_replies()
     ensures a_number_is_answered_once { ANumberIsAnsweredOnce }
     ensures a_number_has_one_reply { ANumberHasOneReply }
 {
+    // for the proof alone
     worked_journals();
 }

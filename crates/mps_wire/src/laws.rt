@@ -45,6 +45,7 @@ pub fn no_script_meets_a_mismatch()
         → IsSplit written lines rest
         → AllByRecursion (λ line. line ≢ codes "refused mismatch") lines }
 {
+    // for the proof alone
     one_reply_line();
 }
 
@@ -59,8 +60,8 @@ pub fn a_conversation_makes_its_commands<C: Caller>()
         → C.made after ≡ C.made before ++ accepted_broken_off C.Caller lines before out after a }
 {}
 
-/// Where no call of a caller is answered `Mismatch` in sessions of one protocol, no line that answers its conversation
-/// is `refused mismatch` there.
+/// Where no call of a caller is answered `Mismatch` in sessions of one protocol, no line that answers a conversation
+/// with this caller is `refused mismatch` in such a session.
 pub fn no_conversation_meets_a_mismatch<C: Caller>()
     ensures whole { (types : C → List LocalType) → MeetsNoMismatch C.Caller types
         → (asked : List (List ℕ)) (before : C) (out : List ℕ) (after : C) (lines : List (List ℕ)) (rest : List ℕ)
@@ -72,6 +73,7 @@ pub fn no_conversation_meets_a_mismatch<C: Caller>()
         → AnswersBrokenOff (ConversesLine C.Caller) (ConversesBrokenOff C.Caller) asked before out after
         → IsSplit out lines rest → AllByRecursion (λ line. line ≢ codes "refused mismatch") lines }
 {
+    // for the proof alone
     one_reply_line();
 }
 

@@ -24,7 +24,7 @@ pub enum Outcome {
     Kept,
 }
 
-// Gives a command with its number.
+// Gives the caller a command that asks for a change, with its number, and says what is to be replied.
 #[inline(never)]
 fn take_numbered<C: Caller>(caller: &mut C, number: u64, command: Command) -> Outcome
     requires { IsSome (change_of command) }
@@ -38,10 +38,12 @@ fn take_numbered<C: Caller>(caller: &mut C, number: u64, command: Command) -> Ou
     }
 }
 
-/// Makes the call of a line, if it has one, and says what is to be replied.
+/// Makes the call of a line, if it has one, and says what is to be replied. A line over 512 bytes has none, nor has one
+/// that is unreadable, or for whose text there is no memory.
 pub fn take_line<C: Caller>(alloc: Global, caller: &mut C, line: &[u8]) -> Outcome
     ensures { RepliesTo C.Caller line.now caller.old (reply_of result (C.kept caller.new)) caller.new }
 {
+    // for the proof alone
     one_numbered();
     if line.len() > MAX_LINE {
         return Outcome::Reply(Reply::BadLine);
@@ -54,7 +56,8 @@ pub fn take_line<C: Caller>(alloc: Global, caller: &mut C, line: &[u8]) -> Outco
     }
 }
 
-/// Writes the reply at the end, without a line break. Where memory runs out, a part of it may stand there.
+/// Writes the reply that the outcome stands for at the end of `out`, without a line break. Where memory runs out, a
+/// part of it may stand there.
 pub fn write_outcome<C: Caller>(
     caller: &C,
     outcome: &Outcome,

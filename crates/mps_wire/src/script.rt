@@ -50,6 +50,7 @@ pub enum ReplayFault {
 impl From<AllocError> for ReplayFault {
     ghost from_gives = { λ _ e. e ≡ OutOfMemory };
 
+    // A failed allocation is `Memory`.
     fn from(_e: AllocError) -> ReplayFault {
         ReplayFault::Memory
     }
@@ -58,6 +59,7 @@ impl From<AllocError> for ReplayFault {
 impl From<OpenFault> for ReplayFault {
     ghost from_gives = { λ fault e. e ≡ of_opening fault };
 
+    // Why no session was opened; lack of memory is `Memory`, as at any other moment.
     fn from(fault: OpenFault) -> ReplayFault {
         match fault {
             OpenFault::Memory => ReplayFault::Memory,
@@ -66,7 +68,7 @@ impl From<OpenFault> for ReplayFault {
     }
 }
 
-// Writes, after the other answers, what others took back.
+// Writes, after the other answers, which of the role's steps others took back. After an error a part may stand there.
 #[inline(never)]
 fn reply_with_news(
     room: &Room,
@@ -80,7 +82,7 @@ fn reply_with_news(
     append_answer(&room.answer_news(role, known), answers)
 }
 
-// Writes, after the other answers, how the session stands.
+// Writes, after the other answers, how the session stands. After an error a part may stand there.
 #[inline(never)]
 fn reply_with_show(room: &Room, answers: &mut Vec<u8>) -> Result<(), AllocError>
     ensures { (role : ℕ) → OnOk result (IsReplied room.now.names room.now.types room.now.journal role Show
@@ -90,7 +92,8 @@ fn reply_with_show(room: &Room, answers: &mut Vec<u8>) -> Result<(), AllocError>
 }
 
 // Gives the role's command to the room, and writes the answer after the others. Questions are answered apart, so that
-// no other line makes space for their answers.
+// no other line makes space for their answers. After an error the command may have been run, with a part of its answer
+// there or none.
 fn reply_to_command(
     room: &mut Room,
     role: Role,
@@ -110,7 +113,8 @@ fn reply_to_command(
     }
 }
 
-// Gives the command of a line to the room, if it has one, and writes the reply after the others.
+// Gives the command of a line to the room, if it has one, and writes the reply after the others. A line over 512 bytes
+// is unreadable. After an error the command may have been run, with a part of its answer there or none.
 fn reply_to_line(
     alloc: Global,
     room: &mut Room,
@@ -123,6 +127,7 @@ fn reply_to_line(
         line.now room.old.journal text room.new.journal)
         answers.old.items answers.new.items) }
 {
+    // for the proof alone
     one_script_line();
     if line.len() > MAX_LINE {
         return write_bad_line(answers);
@@ -137,7 +142,7 @@ fn reply_to_line(
     }
 }
 
-// Answers a line, whose answer goes after the others.
+// Answers a line: gives its command to the room, if it has one, and writes the reply and an LF after the other answers.
 #[inline(always)]
 fn answer_line(
     alloc: Global,
@@ -169,7 +174,7 @@ struct ScriptRun {
 }
 
 impl ScriptRun {
-    // Answers the line that is kept, and begins the next.
+    // Answers the line that is kept, and keeps nothing of the next one yet.
     fn answer_line_kept(&mut self) -> Result<(), AllocError>
         ensures names { self.new.room.names ≡ self.old.room.names }
         ensures types { self.new.room.types ≡ self.old.room.types }
@@ -185,7 +190,7 @@ impl ScriptRun {
         Ok(())
     }
 
-    // Answers the line that ends with these bytes, and begins the next.
+    // Answers the line that ends with these bytes, of which a front may be kept, and keeps nothing of the next one yet.
     fn end_line(&mut self, bytes: &[u8]) -> Result<(), AllocError>
         requires { length self.old.line.items ≤ most_kept }
         ensures names { self.new.room.names ≡ self.old.room.names }
@@ -204,7 +209,7 @@ impl ScriptRun {
         answer_line(self.alloc, &mut self.room, bytes, &mut self.answers)
     }
 
-    // Appends the next bytes, and answers each line that they end.
+    // Takes the next bytes, and answers each line that they end. Of a rest that no LF ends the front is kept.
     fn feed(&mut self, bytes: &[u8]) -> Result<(), AllocError>
         requires { length self.old.line.items ≤ most_kept }
         ensures names { self.new.room.names ≡ self.old.room.names }
@@ -236,7 +241,7 @@ impl ScriptRun {
     }
 }
 
-// Writes the answers that wait.
+// Writes the answers that wait. After a failure only a front of them may be written, and all still wait.
 fn send_answers<W: Sink>(writer: &mut W, answers: &mut Vec<u8>) -> Result<(), Failed>
     requires { W.failed_calls writer.old < 2 ^ 63 }
     ensures sent { OnOk result (Appends (W.taken writer.old) (W.taken writer.new)
@@ -252,7 +257,8 @@ fn send_answers<W: Sink>(writer: &mut W, answers: &mut Vec<u8>) -> Result<(), Fa
     Ok(())
 }
 
-// Reads once and answers the lines that are whole then. Says whether that was the end.
+// Reads once and answers the lines that are whole then; at the end also a rest that no LF ends. Says whether that was
+// the end.
 fn read_and_answer<R: Source, W: Sink>(
     reader: &mut R,
     writer: &mut W,
@@ -291,10 +297,10 @@ fn read_and_answer<R: Source, W: Sink>(
 }
 
 /// Runs the script that the reader gives, in a new room of a session in which nothing was done yet, and writes an
-/// answer to each line. Gives the room.
+/// answer to each line. Gives the room; after a fault it is dropped, with the answers that aren't written.
 ///
-/// The answers to the lines of one read are written before the next read. A last line needs no LF.
-/// The reader is asked for `SCRIPT_BLOCK` bytes at a time, `MAX_READS` times at most.
+/// The answers to the lines of one read are written before the next read. A last line needs no LF. The reader is asked
+/// for `SCRIPT_BLOCK` bytes at a time, `MAX_READS` times at most.
 pub fn replay_session<R: Source, W: Sink>(
     alloc: Global,
     reader: &mut R,
@@ -326,8 +332,8 @@ pub fn replay_session<R: Source, W: Sink>(
     Err(ReplayFault::Turns)
 }
 
-/// Opens a session with these types, and runs the script that the reader gives on it, as
-/// `replay_session` does.
+/// Opens a session with these types, and runs the script that the reader gives on it, as `replay_session` does. Where
+/// none is opened, nothing is read.
 pub fn replay<R: Source, W: Sink>(
     alloc: Global,
     reader: &mut R,

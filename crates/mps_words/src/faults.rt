@@ -20,6 +20,7 @@ pub enum UseFault {
 impl From<AllocError> for UseFault {
     ghost from_gives = { λ _ fault. fault ≡ OutOfMemory };
 
+    // A failed allocation is `Memory`.
     fn from(_: AllocError) -> Self {
         UseFault::Memory
     }
@@ -28,12 +29,13 @@ impl From<AllocError> for UseFault {
 impl<T: Drop> From<AllocFailed<T>> for UseFault {
     ghost from_gives = { λ _ fault. fault ≡ OutOfMemory };
 
+    // A failed allocation is `Memory`; what it gives back is dropped.
     fn from(_: AllocFailed<T>) -> Self {
         UseFault::Memory
     }
 }
 
-/// The fault of use of which this is said.
+/// The fault of use that says this, or that memory ran out for the text.
 pub(crate) fn usage(alloc: Global, what: &str) -> UseFault
     ensures { Says what.now result }
 {

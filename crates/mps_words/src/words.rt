@@ -235,12 +235,13 @@ const FORMS: &[Form] = &[
     },
 ];
 
-// The argument, which takes a number of the range.
+// The argument, which takes numbers of the range alone.
 fn ranged<'a>(argument: Arg<'a>, range: Range) -> Arg<'a> {
     argument.value_parser(ValueParser::Unsigned(range.least, range.most))
 }
 
-// The argument that takes the word.
+// The argument that a `Word` describes: its name, help and range, and whether it is required or takes no value. What
+// makes it an option, and on which other option it depends, is set by `option`.
 fn argument<'a>(alloc: Global, word: &Word) -> Arg<'a> {
     let argument = Arg::new(alloc, word.name).help(word.help);
     let argument = match word.range {
@@ -269,7 +270,7 @@ fn verbose<'a>(alloc: Global) -> Result<Arg<'a>, AllocError> {
         .overrides_with(VERBOSE)
 }
 
-// The option that takes the word, with the options on which it depends.
+// The option that a `Word` describes: its argument, given as `--NAME`, with the option that it requires or excludes.
 fn option<'a>(alloc: Global, word: &Word) -> Result<Arg<'a>, AllocError> {
     let option = argument(alloc, word).long(word.name);
     match word.given {
@@ -279,7 +280,7 @@ fn option<'a>(alloc: Global, word: &Word) -> Result<Arg<'a>, AllocError> {
     }
 }
 
-// The command with these options besides.
+// The command with the options that these `Word`s describe.
 fn with_options<'a>(
     alloc: Global,
     mut command: Command<'a>,
@@ -291,7 +292,8 @@ fn with_options<'a>(
     Ok(command)
 }
 
-// The command of that form.
+// The command that a `Form` describes: its name and help, its words, its options, and those of which one at least is
+// given.
 fn command<'a>(alloc: Global, form: &Form) -> Result<Command<'a>, AllocError> {
     let mut command = Command::new(alloc, form.name).about(form.about);
     for word in form.words {
@@ -305,7 +307,7 @@ fn command<'a>(alloc: Global, form: &Form) -> Result<Command<'a>, AllocError> {
     command.group(group.multiple(true).required(true))
 }
 
-// The program with its commands.
+// The program with its commands, of which one is required.
 fn program<'a>(alloc: Global) -> Result<Command<'a>, AllocError> {
     let mut program = Command::new(alloc, "mps_tool")
         .about("A monitor for multiparty sessions")
@@ -318,18 +320,20 @@ fn program<'a>(alloc: Global) -> Result<Command<'a>, AllocError> {
     Ok(program)
 }
 
-// The number that an option has, of its range.
+// The number that the option was given; none where it wasn't, or isn't in the range.
 fn number_in<'a>(found: &ArgMatches<'a>, name: &str, range: Range) -> Option<u64>
     ensures { IfSome result (λ n. (range.least ≤ n) × (n ≤ range.most)) }
 {
     let number = found.get_one::<u64>(name)?;
+    // clap has seen to that, but no clause of clap's says so
     if number < range.least || number > range.most {
         return None;
     }
     Some(number)
 }
 
-// The number that an option may have, of its range; none where it isn't given.
+// The number that the option was given, or `Some(None)` where it wasn't given; none where it isn't in the range, which
+// clap has seen to.
 fn bound_in<'a>(found: &ArgMatches<'a>, name: &str, range: Range) -> Option<Option<u64>>
     ensures { IfSome result (λ given. IfSome given (λ n. (range.least ≤ n) × (n ≤ range.most))) }
 {
@@ -339,14 +343,14 @@ fn bound_in<'a>(found: &ArgMatches<'a>, name: &str, range: Range) -> Option<Opti
     }
 }
 
-// Where the sessions are kept, if they are.
+// The folder where the sessions are kept, and whether it is synced, if a folder was given.
 fn journal_in<'a>(found: &ArgMatches<'a>) -> Option<JournalFolder<'a>> {
     let folder = found.get_str("journal")?;
     let sync = found.get_flag("sync");
     Some(JournalFolder { folder, sync })
 }
 
-// The order to serve the file, with its options.
+// The order to serve the file, with what the options were given. The port is below 2^16 by its range.
 fn serve_in<'a>(file: &'a str, found: &ArgMatches<'a>) -> Option<Order<'a>>
     ensures { IfSome result IsInRange }
 {
@@ -369,7 +373,8 @@ fn serve_in<'a>(file: &'a str, found: &ArgMatches<'a>) -> Option<Order<'a>>
     })
 }
 
-// The task to compare two scripts.
+// The task to compare two scripts on sessions of the file's protocol; none where a word is missing, which clap has seen
+// to.
 fn same_in<'a>(file: &'a str, found: &ArgMatches<'a>) -> Option<Task<'a>> {
     let first = found.get_str("FIRST")?;
     let second = found.get_str("SECOND")?;
@@ -380,7 +385,7 @@ fn same_in<'a>(file: &'a str, found: &ArgMatches<'a>) -> Option<Task<'a>> {
     })
 }
 
-// The task to run a script.
+// The task to run a script on a session of the file's protocol; none where a word is missing, which clap has seen to.
 fn run_in<'a>(file: &'a str, found: &ArgMatches<'a>) -> Option<Task<'a>> {
     let script = found.get_str("SCRIPT")?;
     let strict = found.get_flag("strict");
@@ -391,7 +396,7 @@ fn run_in<'a>(file: &'a str, found: &ArgMatches<'a>) -> Option<Task<'a>> {
     })
 }
 
-// The task of that command.
+// The task of that command; none of `serve`, which is an order of its own, or of an unknown one.
 fn task_in<'a>(command: &str, file: &'a str, found: &ArgMatches<'a>) -> Option<Task<'a>> {
     match command {
         "check" => Some(Task::Check { file }),
@@ -401,7 +406,8 @@ fn task_in<'a>(command: &str, file: &'a str, found: &ArgMatches<'a>) -> Option<T
     }
 }
 
-// The order that stands in the words, as they matched the commands. There is one, since clap has looked at each word.
+// The order that stands in the words, as they matched the commands. There is one, since clap has looked at each word;
+// no clause of clap's says so.
 fn order_in<'a>(matches: &ArgMatches<'a>) -> Option<Order<'a>>
     ensures { IfSome result IsInRange }
 {
@@ -439,7 +445,7 @@ fn unmatched<'a>(alloc: Global, error: &Error) -> Result<Order<'a>, UseFault>
     })
 }
 
-// The order that stands in the words, as they matched the commands, or a fault of use.
+// The order that stands in the words, as they matched the commands. If there is none after all, a word is missing.
 fn matched<'a>(alloc: Global, matches: &ArgMatches<'a>) -> Result<Order<'a>, UseFault>
     ensures range { IfOk result IsInRange }
     ensures fault { IfErr result (Says missing) }
@@ -450,7 +456,8 @@ fn matched<'a>(alloc: Global, matches: &ArgMatches<'a>) -> Result<Order<'a>, Use
     }
 }
 
-/// Reads the words, of which the first is the program's name.
+/// Reads the order that stands in the words, of which the first is the program's name. Words that ask for help or the
+/// version are an order too; of wrong ones the fault has what clap says.
 pub fn order<'a>(alloc: Global, words: &'a [&'a str]) -> Result<Order<'a>, UseFault>
     ensures ranges { IfOk result IsInRange }
 {
@@ -460,7 +467,7 @@ pub fn order<'a>(alloc: Global, words: &'a [&'a str]) -> Result<Order<'a>, UseFa
     }
 }
 
-/// The words that the program is called with, of which the first is its name.
+/// The words that the program is called with, of which the first is its name. One that is no UTF-8 is a fault of use.
 pub fn words_of<R: Env + AllocGlobal>(rt: &R) -> Result<Vec<String>, UseFault>
     ensures { IfErr result (Says no_text) }
 {

@@ -1,13 +1,9 @@
 -- How a front moves with each step that joins or leaves.
-use Rattle.std.specs.Prelude.{ℕ, if◌then◌else◌, List, Option, Some, None, is_none}
+use Rattle.std.specs.Prelude.{ℕ, if◌then◌else◌, List, Option, Some, None}
 use Rattle.std.specs.Option.{option_and_then}
 use Rattle.mps_arena.specs.Keys.{is_at}
 use Rattle.mps_arena.specs.KeyedSteps.{KeyedStep}
 use Rattle.mps_arena.specs.Neighbours.{next_send_in, prev_send_in}
-
--- the front, where a send joins
-abbrev pub pushed : ℕ → Option ℕ → Option ℕ
-pushed key front = if is_none front then Some key else front
 
 -- the front, where the first is received
 abbrev pub taken : List KeyedStep → Option ℕ → Option ℕ

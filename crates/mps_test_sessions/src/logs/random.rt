@@ -1,4 +1,4 @@
-//! Operations at random: each look-up of a log gives what a walk over a plain list of steps does.
+//! mps_log, mps_arena, mps_queues, mps_stores: after random operations each look-up gives what a walk over a list does.
 use super::Deed::{self, Choose, Commit, Mark, Pick, Receive, Send, Tell};
 use super::*;
 
@@ -400,8 +400,10 @@ fn operate(
     roles: u8,
 ) {
     if dice.roll(2) == 0 {
+        // the first step that may go from one of the first 40 places on
         leave(rt, log, steps, usize::from(dice.roll(40)));
     } else {
+        // each send has a number of its own
         let n = i64::try_from(log.steps().issued()).unwrap_or(0);
         let place = dice.roll(roles);
         let at = u16::from(dice.roll(255));
@@ -420,16 +422,19 @@ fn operations(rt: &(impl Abort + AllocGlobal), roles: u8, seed: u64, times: usiz
     }
 }
 
+// 4,000 operations of three roles, by the dice of seed 1; after each, all look-ups are compared with the list.
 #[test]
 fn three_roles_at_random(rt: HostRuntime) {
     operations(&rt, 3, 1, 4000);
 }
 
+// 4,000 operations of five roles, by the dice of seed 2; after each, all look-ups are compared with the list.
 #[test]
 fn five_roles_at_random(rt: HostRuntime) {
     operations(&rt, 5, 2, 4000);
 }
 
+// 3,000 operations of eight roles, the most, by the dice of seed 3; after each, all look-ups are compared.
 #[test]
 fn eight_roles_at_random(rt: HostRuntime) {
     operations(&rt, 8, 3, 3000);

@@ -1,5 +1,5 @@
 -- What each read of a conversation, with the answers to its lines, leads to.
-use Rattle.std.specs.Prelude.{ℕ, List, [], ◌∷◌, Option, None, Some, Result, Ok, Err, ◌++◌}
+use Rattle.std.specs.Prelude.{ℕ, List, Option, None, Some, Result, Ok, Err, ◌++◌}
 use Rattle.std.specs.Io.KnownBytes.{Appends, IsAtEnd}
 use Rattle.mps_lines.specs.Lines.{ended}
 use Rattle.mps_wire.specs.Answers.{Answering, AnswersBytes, BreaksOffInLast, OfWholeLines}
@@ -46,11 +46,6 @@ pub record IsBrokenOff {S : Type 0} (broken : Answering S) (line : List ℕ) (c 
   pub written : List ℕ
   pub line_is : broken line c written d
   pub sent : Appends taken taken' written
-
--- the line that has begun, or else the piece that came whole
-abbrev pub begun_or : (line piece : List ℕ) → List ℕ
-begun_or [] piece = piece
-begun_or (c ∷ line) piece = c ∷ line
 
 -- bytes are taken line by line, and their answers written
 abbrev pub TakesOn : {S : Type 0} → Answering S → (bytes kept : List ℕ) → S → Option (List ℕ) → List ℕ → S

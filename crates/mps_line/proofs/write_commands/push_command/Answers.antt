@@ -8,12 +8,12 @@ use Rattle.mps_line.proofs.write_commands.push_command.Goals as goal
 
 pub returns-then-not-takes_arguments-clause-ok : goal.returns-then-not-takes_arguments-clause-ok
 returns-then-not-takes_arguments-clause-ok c =
-    (c.verb_word.result.now, c.in_ok-extend_from_slice.ensures.items, lone_read _ _ c.args.command.now (takes_none _ (λ more. false≢true (sym c.if-not-takes_arguments.true ∙ c.takes_arguments.ensures.1 more))) (c.verb_word.ensures ∙ ap verb_word c.verb_of.ensures))
+    (c.verb_word.result.now, c.in_ok-extend_from_slice.ensures.items, lone_read _ _ c.args.command.now (takes_none _ (λ more. false≢true (sym c.if-not-takes_arguments.true ∙ c.takes_arguments.ensures.1 more))) c.verb_word.ensures)
 
 pub returns-clause-ok : goal.returns-clause-ok
 returns-clause-ok c =
     word_written _ _ _ _ _ _ (verb_word (verb_of c.args.command.now)) (arguments c.args.command.now) (c.takes_arguments.ensures.0 c.if-not-takes_arguments.false)
-    (c.in_ok-extend_from_slice.ensures.items ∙ ap (λ (l : List ℕ). c.args.out.now.items ++ l) (c.verb_word.ensures ∙ ap verb_word c.verb_of.ensures))
+    (c.in_ok-extend_from_slice.ensures.items ∙ ap (λ (l : List ℕ). c.args.out.now.items ++ l) c.verb_word.ensures)
     c.in_ok-push.ensures.items c.write_arguments.ensures.ok
 
 pub returns-clause-err : goal.returns-clause-err

@@ -8,7 +8,7 @@ abbrev pub invariant-loop-k : goal.invariant-loop-k
 invariant-loop-k l = record {
   names : l.self.room.names ≡ l.fn.self.room.names;
   types : l.self.room.types ≡ l.fn.self.room.types;
-  restoring : Restoring l.fn.self.room.names l.fn.self.room.types (standing_of l.fn.self) l.bytes l.rest (standing_of l.self) l.lines;
+  restoring : Restoring l.fn.self.room.names l.fn.self.room.types l.fn.first (standing_of l.fn.self) l.bytes l.rest l.chain (standing_of l.self) l.lines l.at;
 }
 
 abbrev pub decreases-loop-k : goal.decreases-loop-k

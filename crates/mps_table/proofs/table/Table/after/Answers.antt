@@ -1,7 +1,17 @@
--- `Table::after` meets its clause `follows`, by the lemmas of Standing.
+-- `Table::after` meets its clauses `next` and `follows`, by the lemmas of Standing.
+use Rattle.std.proofs.Common.{arith, rules}
+use Rattle.std.proofs.lemmas.Option.{slice_get_read}
 use Rattle.mps_table.proofs.Standing.{follows}
 use Rattle.mps_table.proofs.table.Table.after.Goals as goal
 
-pub returns-clause-follows : goal.returns-clause-follows
-returns-clause-follows c =
-    λ t u stands left. follows c.args.self.now c.args.node c.next.result c.args.choice c.row.result t u c.row.ensures.row c.next.ensures.next stands left
+pub returns-in-None-Send-clause-follows : goal.returns-in-None-Send-clause-follows
+returns-in-None-Send-clause-follows c = λ t u. follows _ _ _ _ c.row.result t u c.row.ensures.row (search rules)
+
+pub returns-in-None-Send-2-clause-follows : goal.returns-in-None-Send-2-clause-follows
+returns-in-None-Send-2-clause-follows c = λ t u. follows _ _ _ _ c.row.result t u c.row.ensures.row (search rules)
+
+pub returns-in-Some-Select-clause-next : goal.returns-in-Some-Select-clause-next
+returns-in-Some-Select-clause-next c = grind (arith, slice_get_read)
+
+pub returns-in-Some-Select-clause-follows : goal.returns-in-Some-Select-clause-follows
+returns-in-Some-Select-clause-follows c = λ t u. follows _ _ _ _ c.row.result t u c.row.ensures.row (grind (arith, slice_get_read))

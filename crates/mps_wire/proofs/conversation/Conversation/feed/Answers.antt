@@ -1,12 +1,14 @@
 -- `Conversation::feed` meets its clauses `err`, `short` and `ok` and keeps what holds in each turn of its loop, by the lemmas of Calling, Conversing and Taking.
-use Rattle.std.proofs.Common.{◌≡◌, ℕ, ◌≤◌, List, ◌++◌, length, take, refl, ap, ◌∙◌, arith, length-take}
+use Rattle.std.proofs.Common.{◌≡◌, ℕ, ◌≤◌, List, [], ◌∷◌, ◌++◌, length, take, refl, sym, ap, ◌∙◌, arith, length-take}
+use Rattle.std.proofs.lemmas.Bool.{eqb-true}
 use Rattle.mps_lines.specs.Lines.{front, most_kept}
-use Rattle.mps_wire.specs.Private.Endings.{begun_or}
-use Rattle.mps_wire.specs.Conversations.{ConversesLine, ConversesBrokenOff}
-use Rattle.mps_wire.proofs.Calling.{converses_by_front, broken_by_front, whole_is_broken, wholly_front, broken_front}
+use Rattle.mps_lines.proofs.Splitting.{front_short}
+use Rattle.mps_wire.specs.Conversations.{RepliesTo, ConversesLine, ConversesBrokenOff, reply_of}
+use Rattle.mps_wire.proofs.Calling.{converses_by_front, broken_by_front, whole_is_broken, front_replies}
 use Rattle.mps_wire.proofs.Conversing.{on_err_of}
 use Rattle.mps_wire.proofs.Taking.{taking_begins, takes_on, taking_breaks, taking_ends, taking_stops}
 use Rattle.mps_wire.proofs.conversation.Conversation.feed.Goals as goal
+use Rattle.mps_wire.proofs.conversation.Conversation.feed.Goals.{After-tell, then-is_empty, else-is_empty+in_ok-keep}
 
 front_short_enough : (line new : List ℕ) → new ≡ front line → length new ≤ most_kept
 front_short_enough line new e = omega (arith, ap length e, length-take most_kept line)
@@ -14,37 +16,50 @@ front_short_enough line new e = omega (arith, ap length e, length-take most_kept
 pub loop-k-init : goal.loop-k-init
 loop-k-init g c = record { writes = refl; short = c.requires.short; taking = taking_begins (ConversesLine g.C.Caller) (ConversesBrokenOff g.C.Caller) _ _ _ _ }
 
-pub returns-in_err-keep_begun-clause-err : goal.returns-in_err-keep_begun-clause-err
-returns-in_err-keep_begun-clause-err g c =
+pub returns-in_err-keep-clause-err : goal.returns-in_err-keep-clause-err
+returns-in_err-keep-clause-err g c =
     on_err_of _ _ (taking_stops (ConversesLine g.C.Caller) (ConversesBrokenOff g.C.Caller) _ _ _ _ c.loop-k.rest.now c.loop-k.self.line.items _ _ c.loop-k.invariant.taking (whole_is_broken g.C.Caller))
 
--- the line that is answered, by what was kept and what came
-answered_front : (line kept new old piece : List ℕ) → line ≡ begun_or kept piece → kept ≡ new → front (begun_or new piece) ≡ front (old ++ piece) → front line ≡ front (old ++ piece)
-answered_front line kept new old piece is same h = ap front (is ∙ ap (λ (l : List ℕ). begun_or l piece) same) ∙ h
+-- after nothing a piece is the whole line
+none_before : (line piece : List ℕ) → length line ≡ 0 → front piece ≡ front (line ++ piece)
+none_before [] piece e = refl
+none_before (c ∷ line) piece e = absurd (omega (arith, e))
+
+-- what is kept of a line has the same front
+own_front : (line new : List ℕ) → new ≡ front line → front new ≡ front line
+own_front line new e = front_short new (front_short_enough line new e) ∙ e
+
+-- what was made of the line, wherever it stood, is what its front asks for
+replied : (g : _) (c : After-tell g) → RepliesTo g.C.Caller (front (c.loop-k.self.line.items ++ take c.in-Some.k c.loop-k.rest.now)) c.loop-k.caller (reply_of c.if-is_empty.outcome (g.C.Caller.kept c.if-is_empty.caller)) c.if-is_empty.caller
+replied g c = elim c.if-is_empty.branch [
+  | then-is_empty w ↦
+      let empty : length c.loop-k.self.line.items ≡ 0 = omega (arith, eqb-true _ 0 (sym w.if-is_empty.ensures), c.loop-k.self.line.ok.0) in
+      rw (w.outcome-is, w.caller-is) (front_replies g.C.Caller _ _ (none_before _ _ empty) _ _ _ w.take_line-outcome.ensures)
+  | else-is_empty+in_ok-keep w ↦
+      rw (w.outcome-is, w.caller-is) (front_replies g.C.Caller _ _ (own_front _ _ (w.as_slice.ensures.value ∙ w.in_ok-keep.ensures.ok)) _ _ _ w.take_line-outcome-else-is_empty.ensures)
+]
 
 pub returns-in_err-tell-clause-err : goal.returns-in_err-tell-clause-err
 returns-in_err-tell-clause-err g c =
-    let is = answered_front _ _ _ c.loop-k.self.line.items (take c.in-Some.k c.loop-k.rest.now) c.begun.ensures c.as_slice.ensures.value c.in_ok-keep_begun.ensures in
-    let line = broken_front g.C.Caller _ _ is _ _ _ _ (c.in_err-tell.ensures.err _ _ c.take_line-outcome.ensures) in
+    let line = c.in_err-tell.ensures.err _ _ (replied g (goal.at.returns-in_err-tell-clause-err g c).After-tell) in
     on_err_of _ _ (taking_breaks (ConversesLine g.C.Caller) (ConversesBrokenOff g.C.Caller) _ _ _ _ c.loop-k.rest.now c.loop-k.self.line.items (front (c.loop-k.self.line.items ++ take c.in-Some.k c.loop-k.rest.now)) _ _ c.in-Some.k c.loop-k.invariant.taking c.in-Some.ensures.within c.in-Some.ensures.end c.in-Some.ensures.before refl (broken_by_front g.C.Caller) _ _ line)
 
 pub loop-k-preserved : goal.loop-k-preserved
 loop-k-preserved g c =
-    let is = answered_front _ _ _ c.loop-k.self.line.items (take c.in-Some.k c.loop-k.rest.now) c.begun.ensures c.as_slice.ensures.value c.in_ok-keep_begun.ensures in
-    let line = wholly_front g.C.Caller _ _ is _ _ _ _ (c.in_ok-tell.ensures.ok _ _ c.take_line-outcome.ensures) in
+    let line = c.in_ok-tell.ensures.ok _ _ (replied g (goal.at.loop-k-preserved g c).After-tell) in
     record {
       writes = omega (arith, c.in_ok-tell.ensures.writes, c.loop-k.invariant.writes);
       short = omega (arith, ap length c.clear.ensures.items);
       taking = takes_on (ConversesLine g.C.Caller) (ConversesBrokenOff g.C.Caller) _ _ _ _ c.loop-k.rest.now c.loop-k.self.line.items (front (c.loop-k.self.line.items ++ take c.in-Some.k c.loop-k.rest.now)) _ _ c.in-Some.k c.loop-k.invariant.taking c.in-Some.ensures.within c.in-Some.ensures.end c.in-Some.ensures.before refl (converses_by_front g.C.Caller) _ _ _ line c.clear.ensures.items;
     }
 
-pub returns-in_err-keep-clause-err : goal.returns-in_err-keep-clause-err
-returns-in_err-keep-clause-err g c =
+pub returns-in_err-keep-2-clause-err : goal.returns-in_err-keep-2-clause-err
+returns-in_err-keep-2-clause-err g c =
     on_err_of _ _ (taking_stops (ConversesLine g.C.Caller) (ConversesBrokenOff g.C.Caller) _ _ _ _ c.loop-k.rest.now c.loop-k.self.line.items _ _ c.loop-k.invariant.taking (whole_is_broken g.C.Caller))
 
 pub returns-clause-short : goal.returns-clause-short
-returns-clause-short g c = front_short_enough _ _ c.in_ok-keep.ensures.ok
+returns-clause-short g c = front_short_enough _ _ c.in_ok-keep-2.ensures.ok
 
 pub returns-clause-ok : goal.returns-clause-ok
 returns-clause-ok g c =
-    taking_ends (ConversesLine g.C.Caller) (ConversesBrokenOff g.C.Caller) _ _ _ _ c.loop-k.rest.now c.loop-k.self.line.items _ _ c.loop-k.invariant.taking _ c.in_default.ensures.none c.in_ok-keep.ensures.ok
+    taking_ends (ConversesLine g.C.Caller) (ConversesBrokenOff g.C.Caller) _ _ _ _ c.loop-k.rest.now c.loop-k.self.line.items _ _ c.loop-k.invariant.taking _ c.in_default.ensures.none c.in_ok-keep-2.ensures.ok

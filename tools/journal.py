@@ -1,0 +1,115 @@
+"""journal: what the file of a recorded session has, without a server."""
+import os
+import re
+import subprocess
+import tempfile
+
+import journals
+import output
+
+NAME = re.compile(r"([1-9][0-9]{0,18})\.journal")
+NUMBERED = re.compile(rb"([a-z][a-z0-9_]*) ([1-9][0-9]*) (.+)", re.DOTALL)
+LONGEST = 583  # bytes of a line without its LF
+CHANGED = "it doesn't end in its seal: it, or a line before it, was changed, moved, doubled or left out"
+
+
+class Unread(Exception):
+    """Why a file can't be read as that of a session."""
+
+
+def bytes_of(path):
+    """What the file has."""
+    try:
+        with open(path, "rb") as file:
+            return file.read()
+    except OSError as error:
+        raise Unread(f"{path}: {error.strerror}") from None
+
+
+def answers(program, protocol, lines):
+    """What the program answers to these lines, on a session of the protocol in that file."""
+    with tempfile.NamedTemporaryFile(prefix="journal-") as script:
+        script.write(b"".join(line + b"\n" for line in lines))
+        script.flush()
+        ran = subprocess.run([program, "run", "--", protocol, script.name], stdin=subprocess.DEVNULL, stdout=subprocess.PIPE,
+                             stderr=subprocess.PIPE, check=False)
+    if ran.returncode != 0:
+        raise Unread(f"{protocol} can't be used: {ran.stderr.decode(errors='replace').strip()}")
+    return ran.stdout.split(b"\n")[:-1]
+
+
+class Journal:
+    """A session's file: its lines as a script's, the newest number of each role that gave one, and the first line that is
+    wrong, with why."""
+
+    def __init__(self, path):
+        self.folder, name = os.path.split(path)
+        match = NAME.fullmatch(name)
+        if not match:
+            raise Unread(f"{path}: the name of a session's file is K.journal, where K is the session's number")
+        self.session, self.protocol = int(match[1]), os.path.join(self.folder, "protocol")
+        text = bytes_of(self.protocol)
+        data = bytes_of(path)
+        self.found = journals.read(data, journals.first_seal(text[:-1] if text.endswith(b"\n") else text, self.session))
+        self.rest = data[self.found.size:] if self.found.fault is None else b""
+        self.script, self.newest, self.fault = [], {}, None
+        for at, line in zip(self.found.places, self.found.lines):
+            if not self.add(at, line):
+                break
+        if self.fault is None and self.found.fault is not None:
+            self.fault = (self.found.fault, CHANGED)
+
+    def add(self, at, line):
+        """Adds the line to the script. Whether its number, where it has one, is its role's next."""
+        numbered = NUMBERED.fullmatch(line)
+        if numbered:
+            role, number, command = numbered.groups()
+            last = self.newest.get(role, 0)
+            if int(number) != last + 1:
+                self.fault = (at, f"its number is {int(number)}, and the newest of its role is {last}")
+                return False
+            self.newest[role] = int(number)
+            line = role + b" " + command
+        self.script.append(line)
+        return True
+
+    def run(self, program):
+        """Looks whether each line is accepted, and whether what stands after the last may be cut off."""
+        for at, answer in enumerate(answers(program, self.protocol, self.script)):
+            if not answer.startswith((b"done ", b"undone")):
+                line = self.script[at].decode(errors="replace")
+                self.fault = (self.found.places[at], f"`{line}` is answered `{answer[:80].decode()}`")
+                del self.script[at:]
+                return
+        if self.fault is None and self.rest and not self.is_torn():
+            self.fault = (self.found.count + 1, "it has no LF, and no write that broke off leaves such a rest")
+
+    def is_torn(self):
+        """Whether the rest may be what a write left that broke off."""
+        is_shown = all(32 <= byte <= 126 for byte in self.rest)
+        return is_shown and len(self.rest) <= LONGEST and not self.found.closes(self.rest[:-1])
+
+    def report(self):
+        """The lines that say what the file has."""
+        yield f"session {self.session}: {len(self.script)} {'entry' if len(self.script) == 1 else 'entries'}"
+        for role in sorted(self.newest):
+            yield f"{role.decode()} {self.newest[role]}"
+        if self.fault is not None:
+            yield f"line {self.fault[0]}: {self.fault[1]}"
+        elif self.rest:
+            yield f"after the last line stand {len(self.rest)} bytes of one that wasn't answered: the next start cuts them off"
+
+
+def tell(program, path, as_script):
+    """Writes what the file has, or its lines as a script. The exit status: 3 where a line is wrong."""
+    try:
+        journal = Journal(path)
+        journal.run(program)
+    except Unread as error:
+        output.tell(f"{error}\n".encode())
+        return 2
+    lines = journal.report() if not as_script else (line.decode() for line in journal.script)
+    output.write("".join(f"{line}\n" for line in lines))
+    if as_script and journal.fault is not None:
+        output.tell(f"line {journal.fault[0]}: {journal.fault[1]}\n".encode())
+    return 0 if journal.fault is None else 3
