@@ -5,16 +5,15 @@ use mps_command::{Answer, Command, StepIds};
 use mps_line::read_numbered;
 use mps_room::{Caller, Numbers, Position, Solo, Told, call_numbered};
 use std::alloc::Global;
+use std::process::Abort;
 use std::test::Fail;
 
-// Whether each of the numbers stands where its row says.
-fn stand(numbers: &Numbers, rows: &[(u64, Position)]) -> bool {
-    for row in rows {
-        if Position::of(numbers.last(), row.0) != row.1 {
-            return false;
-        }
+// Each of the numbers stands where its row says.
+fn stand(rt: &impl Abort, numbers: &Numbers, rows: &[(u64, Position)]) {
+    for (number, position) in rows {
+        let found = Position::of(numbers.last(), *number);
+        assert!(rt; found == *position, "the position of number {number}");
     }
-    true
 }
 
 // Numbers, and where they stand before any is accepted.
@@ -46,16 +45,23 @@ fn is_kept(alloc: Global, numbers: &Numbers) -> Result<bool, Fail> {
     }
 }
 
-// `Numbers` keeps the newest accepted number with its answer, and `Position::of` says which number may come next.
+// `mps_room::Numbers` keeps the newest accepted number with its answer, and `Position::of` says which number may come
+// next.
 #[test]
-fn keeps_the_newest_number(rt: HostRuntime) -> Result<(), Fail> {
+fn the_newest_number_is_kept_with_its_answer(rt: HostRuntime) -> Result<(), Fail> {
     let answer = undone(rt.alloc())?;
     let mut numbers = Numbers::new();
-    assert!(rt; numbers.last() == 0 && numbers.kept().is_none());
-    assert!(rt; stand(&numbers, AT_FIRST));
+    assert!(rt;
+        numbers.last() == 0 && numbers.kept().is_none(),
+        "nothing is kept at first"
+    );
+    stand(&rt, &numbers, AT_FIRST);
     numbers.keep(1, answer);
-    assert!(rt; stand(&numbers, AFTER_ONE));
-    assert!(rt; is_kept(rt.alloc(), &numbers)?);
+    stand(&rt, &numbers, AFTER_ONE);
+    assert!(rt;
+        is_kept(rt.alloc(), &numbers)?,
+        "the answer is kept under the number 1"
+    );
     Ok(())
 }
 
@@ -157,10 +163,14 @@ fn goes_by_numbers(alloc: Global, solo: &mut Solo) -> Result<bool, Fail> {
     )
 }
 
-// `call_numbered` calls a number's command once (`Fresh`), keeps its answer (`Kept`), and calls no other (`Wrong`).
+// `mps_room::call_numbered` calls a number's command once (`Fresh`), keeps its answer (`Kept`), and calls no other
+// (`Wrong`).
 #[test]
-fn calls_with_numbers(rt: HostRuntime) -> Result<(), Fail> {
+fn a_number_is_called_once_and_its_answer_kept(rt: HostRuntime) -> Result<(), Fail> {
     let mut solo = new_solo(rt.alloc())?;
-    assert!(rt; goes_by_numbers(rt.alloc(), &mut solo)?);
+    assert!(rt;
+        goes_by_numbers(rt.alloc(), &mut solo)?,
+        "five entries, no news, the newest number 5 and three roles"
+    );
     Ok(())
 }

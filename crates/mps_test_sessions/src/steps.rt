@@ -288,32 +288,46 @@ pub(super) enum Line {
 
 use Line::{Asks, Count, GoesBack, Keeps, Moves, RollsBack, Step, Undoes, Waits};
 
-// The text is the one that is wanted.
-fn is_told(rt: &impl Abort, found: String, wanted: &str) {
-    assert!(rt; found.as_str() == wanted, "{found} for {wanted}");
+// The text is the one that is wanted in that row.
+fn is_told(rt: &impl Abort, row: usize, found: String, wanted: &str) {
+    assert!(rt;
+        found.as_str() == wanted,
+        "row {row} (from 0): {found} for {wanted}"
+    );
 }
 
-// The line comes out as it is wanted.
-fn play_line(rt: &(impl Abort + AllocGlobal), session: &mut Session, line: Line) {
+// The line, in that row, comes out as it is wanted.
+fn play_line(rt: &(impl Abort + AllocGlobal), session: &mut Session, row: usize, line: Line) {
     match line {
-        Asks(place, ask, wanted) => is_told(rt, answer(rt, session, place, ask), wanted),
-        Undoes(place, id, wanted) => is_told(rt, undone(rt, session, place, id), wanted),
-        RollsBack(place, id, wanted) => is_told(rt, rolled_back(rt, session, place, id), wanted),
-        GoesBack(place, mark, wanted) => is_told(rt, went_back(rt, session, place, mark), wanted),
-        Waits(from, to, k, wanted) => is_told(rt, waiting(rt, session, from, to, k), wanted),
-        Keeps(place, slot, wanted) => is_told(rt, kept(rt, session, place, slot), wanted),
-        Step(k, wanted) => is_told(rt, step(rt, session, k), wanted),
-        Moves(wanted) => is_told(rt, moved(rt, session), wanted),
+        Asks(place, ask, wanted) => is_told(rt, row, answer(rt, session, place, ask), wanted),
+        Undoes(place, id, wanted) => is_told(rt, row, undone(rt, session, place, id), wanted),
+        RollsBack(place, id, wanted) => is_told(
+            rt,
+            row,
+            rolled_back(rt, session, place, id),
+            wanted,
+        ),
+        GoesBack(place, mark, wanted) => is_told(
+            rt,
+            row,
+            went_back(rt, session, place, mark),
+            wanted,
+        ),
+        Waits(from, to, k, wanted) => is_told(rt, row, waiting(rt, session, from, to, k), wanted),
+        Keeps(place, slot, wanted) => is_told(rt, row, kept(rt, session, place, slot), wanted),
+        Step(k, wanted) => is_told(rt, row, step(rt, session, k), wanted),
+        Moves(wanted) => is_told(rt, row, moved(rt, session), wanted),
         Count(steps, numbers) => {
-            assert_eq!(rt; (session.len(), session.issued()), (steps, numbers));
+            let found = (session.len(), session.issued());
+            assert_eq!(rt; found, (steps, numbers), "row {row} (from 0)");
         }
     }
 }
 
 // Each line comes out as it is wanted.
 pub(super) fn play(rt: &(impl Abort + AllocGlobal), session: &mut Session, lines: &[Line]) {
-    for line in lines {
-        play_line(rt, session, *line);
+    for (row, line) in lines.iter().enumerate() {
+        play_line(rt, session, row, *line);
     }
 }
 
@@ -400,9 +414,10 @@ const RELAY: &[Line] = &[
     Waits(255, 255, 0, "-"),
 ];
 
-// `Session::forward` does the steps that the types allow. `message`, `slot`, `step` and `moves` show what they led to.
+// `mps_session::Session::forward` does the steps that the types allow. `message`, `slot`, `step` and `moves` show what
+// they led to.
 #[test]
-fn relays(rt: HostRuntime) {
+fn accepted_steps_show_in_the_session(rt: HostRuntime) {
     play_anew(&rt, A_TO_B_TO_C, RELAY);
 }
 
@@ -427,9 +442,10 @@ const REFUSALS: &[Line] = &[
     Waits(A, B, 1, "-"),
 ];
 
-// `Session::forward` refuses what a role's type does not allow, by the first reason, and then nothing has changed.
+// `mps_session::Session::forward` refuses what a role's type does not allow, by the first reason, and then nothing has
+// changed.
 #[test]
-fn refuses(rt: HostRuntime) {
+fn a_refused_step_changes_nothing(rt: HostRuntime) {
     play_anew(&rt, A_TO_B_TO_C, REFUSALS);
 }
 
@@ -445,9 +461,10 @@ const MISMATCH: &[Line] = &[
     Count(1, 1),
 ];
 
-// A receipt of a value of another sort is a `Mismatch`, and changes nothing. With a protocol's types this can't happen.
+// `mps_session::Session::forward` refuses the receipt of a value of another sort as `Mismatch`, and changes nothing.
+// With a protocol's types this can't happen.
 #[test]
-fn refuses_a_message_of_another_sort(rt: HostRuntime) {
+fn a_value_of_another_sort_is_a_mismatch(rt: HostRuntime) {
     play_anew(&rt, UNFITTING, MISMATCH);
 }
 
@@ -482,9 +499,9 @@ const VALUES: &[Line] = &[
     Step(0, "1 0 gave 1 \"good day\""),
 ];
 
-// `Session::forward` passes values of each sort on unchanged.
+// `mps_session::Session::forward` passes values of each sort on unchanged.
 #[test]
-fn carries_values_of_each_sort(rt: HostRuntime) {
+fn values_of_each_sort_are_passed_unchanged(rt: HostRuntime) {
     play_anew(&rt, EACH_SORT, VALUES);
 }
 
@@ -516,9 +533,9 @@ const AGAIN: &[Line] = &[
     Moves("1 1; 2 2; 3 3; 4 1; 5 2; 6 3; "),
 ];
 
-// `Session::slot` gives the value of the newest receipt into the slot; other slots and roles keep theirs.
+// `mps_session::Session::slot` gives the value of the newest receipt into the slot; other slots and roles keep theirs.
 #[test]
-fn binds_a_slot_again(rt: HostRuntime) {
+fn a_slot_has_the_value_of_its_newest_receipt(rt: HostRuntime) {
     play_anew(&rt, THREE, AGAIN);
 }
 
@@ -535,9 +552,10 @@ const MARKS: &[Line] = &[
     Moves("1 -; 2 5; 3 -; "),
 ];
 
-// A mark is a step with a number, always allowed, which leaves type, queues and slots as they are.
+// `mps_session::Session::forward` of a mark is a step with a number, always allowed, which leaves type, queues and
+// slots as they are.
 #[test]
-fn marks(rt: HostRuntime) {
+fn a_mark_is_a_step_that_is_always_allowed(rt: HostRuntime) {
     play_anew(&rt, A_TO_B_TO_C, MARKS);
 }
 
@@ -567,8 +585,9 @@ fn fault_of(opening: Opening) -> Option<OpenFault> {
 
 // That comes of opening a session with the types.
 pub(super) fn opens_so(rt: &(impl Abort + AllocGlobal), types: Vec<Local>, wanted: Opening) {
+    let count = types.len();
     let fault = Session::open(rt.alloc(), types).err();
-    assert!(rt; fault == fault_of(wanted));
+    assert!(rt; fault == fault_of(wanted), "{count} types: {fault:?}");
 }
 
 // Types: nothing; an output to a; the same and then an input from c.
@@ -593,9 +612,10 @@ const OPENINGS: &[(&[&[Row]], Opening)] = &[
     (&[&[TO_B], FROM_C, END], Opening::Opened),
 ];
 
-// `Session::open` takes the types of 2 to 8 roles that name other roles alone, and else tells the fault and the role.
+// `mps_session::Session::open` takes the types of 2 to 8 roles that name other roles alone, and else tells the fault
+// and the role.
 #[test]
-fn opens(rt: HostRuntime) {
+fn types_of_2_to_8_roles_open_a_session(rt: HostRuntime) {
     for (rows, wanted) in OPENINGS {
         opens_so(&rt, types(&rt, rows), *wanted);
     }
