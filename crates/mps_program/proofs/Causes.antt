@@ -15,7 +15,7 @@ use Rattle.mps_program.specs.Faults.{as_told, without}
 use Rattle.mps_program.specs.Journals.{recorded_of}
 use Rattle.mps_program.specs.Served.{IsOutFault, IsServeFault}
 use Rattle.mps_program.specs.declared.faults.ToolFault.{ToolFault}
-use Rattle.mps_program.specs.declared.faults.ToolFault.TheVariants.{Bind, File, JournalFile, JournalLine, JournalLost, Read}
+use Rattle.mps_program.specs.declared.faults.ToolFault.TheVariants.{Bind, File, JournalFile, Read}
 
 -- a fault that `?` hands on
 pub told : {A : Type 0} (r : Result A ToolFault) (P : ToolFault → Type 0) (e : ToolFault) → IsErrAnd r (λ x. x ≡ e) → P e → IfErr r P
@@ -34,14 +34,10 @@ bare_server file None first n (File name why) h = h
 bare_server file None first n (Read why) h = h
 bare_server file None first n (Bind why) h = h
 bare_server file None first n (JournalFile session why) h = h
-bare_server file None first n (JournalLine session line why) h = h
-bare_server file None first n (JournalLost session why) h = h
 bare_server file (Some folder) first n (File name why) h = h
 bare_server file (Some folder) first n (Read why) h = h
 bare_server file (Some folder) first n (Bind why) h = h
 bare_server file (Some folder) first n (JournalFile session why) h = h
-bare_server file (Some folder) first n (JournalLine session line why) h = h
-bare_server file (Some folder) first n (JournalLost session why) h = h
 bare_server file folder first n fault h = h
 
 pub server_told : {A : Type 0} (verbose : Bool) (done : Result A ToolFault) (file : List ℕ) (folder : Option (List ℕ)) (first n : ℕ) → IfErr done (IsServeFault file folder first n) → IfErr (as_told verbose done) (IsServeFault file folder first n)

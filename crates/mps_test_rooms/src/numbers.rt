@@ -5,15 +5,16 @@ use mps_command::{Answer, Command, StepIds};
 use mps_line::read_numbered;
 use mps_room::{Caller, Numbers, Position, Solo, Told, call_numbered};
 use std::alloc::Global;
-use std::process::Abort;
 use std::test::Fail;
 
-// Each of the numbers stands where its row says.
-fn stand(rt: &impl Abort, numbers: &Numbers, rows: &[(u64, Position)]) {
-    for (number, position) in rows {
-        let found = Position::of(numbers.last(), *number);
-        assert!(rt; found == *position, "the position of number {number}");
+// Whether each of the numbers stands where its row says.
+fn stand(numbers: &Numbers, rows: &[(u64, Position)]) -> bool {
+    for row in rows {
+        if Position::of(numbers.last(), row.0) != row.1 {
+            return false;
+        }
     }
+    true
 }
 
 // Numbers, and where they stand before any is accepted.
@@ -45,23 +46,16 @@ fn is_kept(alloc: Global, numbers: &Numbers) -> Result<bool, Fail> {
     }
 }
 
-// `mps_room::Numbers` keeps the newest accepted number with its answer, and `Position::of` says which number may come
-// next.
+// `Numbers` keeps the newest accepted number with its answer, and `Position::of` says which number may come next.
 #[test]
-fn the_newest_number_is_kept_with_its_answer(rt: HostRuntime) -> Result<(), Fail> {
+fn keeps_the_newest_number(rt: HostRuntime) -> Result<(), Fail> {
     let answer = undone(rt.alloc())?;
     let mut numbers = Numbers::new();
-    assert!(rt;
-        numbers.last() == 0 && numbers.kept().is_none(),
-        "nothing is kept at first"
-    );
-    stand(&rt, &numbers, AT_FIRST);
+    assert!(rt; numbers.last() == 0 && numbers.kept().is_none());
+    assert!(rt; stand(&numbers, AT_FIRST));
     numbers.keep(1, answer);
-    stand(&rt, &numbers, AFTER_ONE);
-    assert!(rt;
-        is_kept(rt.alloc(), &numbers)?,
-        "the answer is kept under the number 1"
-    );
+    assert!(rt; stand(&numbers, AFTER_ONE));
+    assert!(rt; is_kept(rt.alloc(), &numbers)?);
     Ok(())
 }
 
@@ -163,14 +157,10 @@ fn goes_by_numbers(alloc: Global, solo: &mut Solo) -> Result<bool, Fail> {
     )
 }
 
-// `mps_room::call_numbered` calls a number's command once (`Fresh`), keeps its answer (`Kept`), and calls no other
-// (`Wrong`).
+// `call_numbered` calls a number's command once (`Fresh`), keeps its answer (`Kept`), and calls no other (`Wrong`).
 #[test]
-fn a_number_is_called_once_and_its_answer_kept(rt: HostRuntime) -> Result<(), Fail> {
+fn calls_with_numbers(rt: HostRuntime) -> Result<(), Fail> {
     let mut solo = new_solo(rt.alloc())?;
-    assert!(rt;
-        goes_by_numbers(rt.alloc(), &mut solo)?,
-        "five entries, no news, the newest number 5 and three roles"
-    );
+    assert!(rt; goes_by_numbers(rt.alloc(), &mut solo)?);
     Ok(())
 }
