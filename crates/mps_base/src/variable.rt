@@ -24,8 +24,7 @@ impl Model for VarName {
 }
 
 impl VarName {
-    /// Makes a variable's name of these bytes, which are copied without allocating. `None` where they are not 1 to 32
-    /// capital letters, digits and `_` with a letter first.
+    /// Makes a variable's name of these bytes; `None` where they spell no variable.
     pub fn read(bytes: &[u8]) -> Option<VarName>
         ensures some { IsSome result ↔ IsVariable bytes.now }
         ensures name { IfSome result (λ name. name ≡ bytes.now) }
@@ -37,7 +36,7 @@ impl VarName {
         }
     }
 
-    /// The bytes of the name: 1 to 32, borrowed. The clause `name` says for callers' proofs that they spell a variable.
+    /// The bytes of the name, from the first to the last.
     pub fn as_bytes(&self) -> &[u8]
         ensures bytes { result.now ≡ self.now }
         ensures name { IsVariable self.now }
@@ -45,7 +44,7 @@ impl VarName {
         self.0.as_bytes()
     }
 
-    /// Whether both names have the same bytes: `==` on references, with a contract. By it a variable finds its `rec`.
+    /// Whether both variables are spelled alike.
     pub fn is(&self, other: &VarName) -> bool
         ensures { IsTrue result ↔ (self.now ≡ other.now) }
     {
@@ -53,8 +52,8 @@ impl VarName {
     }
 }
 
-// Whether the bytes spell a variable: 1 to 32 of them, a capital letter first, and then capital letters, digits and
-// `_`.
+// Whether the bytes spell a variable: 1 to 32 of them, a capital letter first, and each one that a variable may
+// contain.
 fn is_variable(bytes: &[u8]) -> bool
     ensures { IsTrue result ↔ IsVariable bytes.now }
 {
@@ -66,7 +65,7 @@ fn is_variable(bytes: &[u8]) -> bool
     }
 }
 
-// Whether each byte is a capital letter, a digit or `_`, in whatever number and order.
+// Whether each of the bytes may stand in a variable: a capital letter, a digit or `_`.
 fn has_variable_bytes(bytes: &[u8]) -> bool
     ensures { IsTrue result ↔ AllByRecursion (λ c. IsTrue (is_variable_byte c)) bytes.now }
 {

@@ -55,7 +55,6 @@ impl<'a> Model for Pass<'a> {
 
 /// Something that runs while the room is out: tests give one, to hold a call up.
 pub trait Pause {
-    // What runs between taking the room and answering in it.
     fn pause(&mut self);
 }
 
@@ -64,7 +63,6 @@ pub trait Pause {
 pub struct Straight;
 
 impl Pause for Straight {
-    // Does nothing: the pause of `call`.
     fn pause(&mut self) {}
 }
 
@@ -98,7 +96,7 @@ impl Model for Leave {
 }
 
 impl Leave {
-    // Takes the seat out for `close_with`, which joins what it knows.
+    // The seat by itself.
     pub(crate) fn into_seat(self) -> Seat<Room, SeatView>
         ensures free { IsResting result.me }
         ensures known { self ≡ known result.table_id result.me.0 }
@@ -109,8 +107,8 @@ impl Leave {
 }
 
 impl<'a> Pass<'a> {
-    // The pass of a role on this seat, as it is dealt: it has seen the entries that the cell began with, and has the
-    // numbers that its role had by then.
+    // The pass of a role that rests on this seat, as it is dealt: it has seen the entries that the cell began with, and
+    // has the numbers that its role had by then.
     pub(crate) fn fresh(
         shared: &'a SharedTable,
         waiting: &'a AtomicU64,
@@ -140,8 +138,7 @@ impl<'a> Pass<'a> {
         }
     }
 
-    /// Calls the room for the role, and returns the answer: `call_with` without a pause. It waits while another pass
-    /// has the room: it looks 100 times, then sleeps. No clause says that its turn comes (no fairness).
+    /// Calls the room for the role, and is answered. It waits for its turn, and no clause says that the turn comes.
     pub fn call<R: Wait>(&mut self, rt: &R, command: Command) -> Answer
         ensures call { Calls self.old command result self.new }
         ensures numbers { self.new.newest ≡ self.old.newest }
@@ -149,7 +146,7 @@ impl<'a> Pass<'a> {
         self.call_with(rt, command, &mut Straight)
     }
 
-    /// `call` with a pause between taking the room and answering in it: for tests that hold a call up.
+    /// The same, with a pause between taking the room and answering in it.
     pub fn call_with<R: Wait, P: Pause>(
         &mut self,
         rt: &R,
@@ -171,8 +168,7 @@ impl<'a> Pass<'a> {
         )
     }
 
-    /// Calls the room if no other pass has it, and never waits. `Busy` where another has it, or another call came
-    /// between the look and the try; nothing changes then.
+    /// Calls the room if it is at home. It takes one look and one try, and never waits.
     pub fn try_call(&mut self, command: Command) -> Result<Answer, Busy>
         ensures call { IfOk result (λ answer. Calls self.old command answer self.new) }
         ensures numbers { OnOk result (self.new.newest ≡ self.old.newest) }
@@ -193,7 +189,7 @@ impl<'a> Pass<'a> {
         ))
     }
 
-    /// How many entries the journal has by now: one atomic load. It never waits, and does not allocate.
+    /// How many entries the journal has by now. It never waits, and does not allocate.
     pub fn front(&mut self) -> u64
         ensures told { LearnsLength self.old result self.new }
     {
@@ -201,45 +197,42 @@ impl<'a> Pass<'a> {
         word / 2
     }
 
-    /// How many entries the journal had after this pass's last call; at first those that the cell began with.
+    /// How many entries the journal had that the last call showed.
     pub fn seen(&self) -> u64
         ensures seen { result ≡ length self.now.seen }
     {
         self.seen
     }
 
-    /// The role for which this pass calls; a cell deals one pass for each.
+    /// The role that it calls for.
     pub fn role(&self) -> Role
         ensures role { result ≡ self.now.role }
     {
         self.role
     }
 
-    /// The names of the session's roles, 2 to 8, in order, which the pass borrows from its cell.
+    /// The names of the roles.
     pub fn names(&self) -> &Roles
         ensures names { result.now ≡ self.now.opening.names }
     {
         self.names
     }
 
-    /// The newest of the pass's accepted numbered commands, with its answer, by which a command that is sent again is
-    /// answered.
+    /// The newest of its numbered commands that was accepted.
     pub fn numbers(&self) -> &Numbers
         ensures numbers { result.now.newest ≡ self.now.newest }
     {
         &self.numbers
     }
 
-    // Stores the answer to a numbered command under its number, and drops the one before it. For `Held`, whose callers
-    // have checked the number.
+    // Keeps the answer to a numbered command under its number.
     pub(crate) fn keep(&mut self, number: u64, answer: Answer)
         ensures keep { self.new ≡ carried self.old (Some (record { number = number; answer = answer })) }
     {
         self.numbers.keep(number, answer);
     }
 
-    /// Gives up the pass, and returns what it knows without the borrow of its cell, for `close_with`. Its numbered
-    /// command is dropped.
+    /// What the pass knows, without the borrow of its cell. Its numbered command is dropped.
     pub fn leave(self) -> Leave
         ensures known { result ≡ carried self.entry None }
     {
@@ -256,8 +249,8 @@ impl<'a> Pass<'a> {
     }
 }
 
-/// Compares how many entries two passes of one cell have seen. The journal that the one saw is a prefix of what the
-/// other saw. It never waits, and does not allocate.
+/// Compares what two passes of one cell have seen. What the one has seen begins what the other has. It never waits,
+/// and does not allocate.
 pub fn meet(first: &mut Pass<'_>, second: &mut Pass<'_>) -> Ordering
     requires cell { second.old.cell ≡ first.old.cell }
     ensures first { KeepsSeen first.old first.new }

@@ -17,11 +17,10 @@ use std::sync::atomic::AtomicU64;
 use std::sync::atomic::Ordering::SeqCst;
 use std::thread::yield_now;
 
-// How often a pass looks whether the room is back, and yields to other threads, before it sleeps.
+// How often a pass looks whether the room is back, and lets other threads run between, before it sleeps.
 const LOOKS: u32 = 100;
 
-// One atomic load and, where the room is there, one compare-and-exchange, which takes it. Returned are the journal's
-// length that the word showed, and whether the room was taken. It never waits.
+// One look and one try. It tells the journal's length that the word showed, and whether the room was taken.
 pub(crate) fn try_take(shared: &SharedTable, seat: &mut Seat<Room, SeatView>) -> (u64, bool)
     requires cell { seat.old.table_id ≡ shared.now.table_id }
     requires word { shared.now.table_id.words ≡ 1 }
@@ -38,8 +37,7 @@ pub(crate) fn try_take(shared: &SharedTable, seat: &mut Seat<Room, SeatView>) ->
     (again / 2, again == found)
 }
 
-// Takes the room, and waits while another pass has it. The first try stands here, the waiting apart, so that the usual
-// call is short.
+// Takes the room, and sleeps while it is out.
 #[inline(never)]
 pub(crate) fn take<R: Wait>(
     rt: &R,
@@ -58,8 +56,7 @@ pub(crate) fn take<R: Wait>(
     }
 }
 
-// The waiting of `take`: it looks again for a while, and then sleeps until a pass gives the room back. No clause says
-// that its turn comes.
+// The same, where the room was out: it looks again for a while, and then sleeps.
 #[inline(never)]
 fn take_later<R: Wait>(
     rt: &R,
@@ -93,8 +90,7 @@ fn take_later<R: Wait>(
     unreachable!()
 }
 
-// `try_take` once the room is back, or after 100 looks with a yield after each: most calls are shorter than going to
-// sleep.
+// The same as `try_take`, once the room is back or a while has gone by.
 fn try_take_soon(shared: &SharedTable, seat: &mut Seat<Room, SeatView>) -> (u64, bool)
     requires cell { seat.old.table_id ≡ shared.now.table_id }
     requires word { shared.now.table_id.words ≡ 1 }
@@ -112,8 +108,7 @@ fn try_take_soon(shared: &SharedTable, seat: &mut Seat<Room, SeatView>) -> (u64,
     try_take(shared, seat)
 }
 
-// Answers the role's command in the room that was taken, and gives the room back. `seen` becomes the journal's length.
-// For `call` and `try_call` alike.
+// Answers the role's command in the room that was taken, and gives the room back. `seen` is the journal's length then.
 pub(crate) fn finish(
     shared: &SharedTable,
     waiting: &AtomicU64,
@@ -141,8 +136,7 @@ pub(crate) fn finish(
     answer
 }
 
-// Gives the room back: stores the journal's length in the word, and wakes one pass where the flag says that some may
-// sleep. The order of the three is what keeps a sleeper from being missed.
+// Gives the room back with a journal of so many entries, and wakes a pass that may sleep.
 #[inline(never)]
 fn give_back(
     shared: &SharedTable,
@@ -167,7 +161,7 @@ fn give_back(
     }
 }
 
-// Answers the command in the room, which stays the seat's. `seen` becomes the journal's length.
+// Answers the command. `seen` is the journal's length then, and the room is still the seat's.
 fn answer_in(
     shared: &SharedTable,
     seat: &mut Seat<Room, SeatView>,

@@ -13,8 +13,7 @@ pub enum Above<'a> {
     Act(&'a Above<'a>),
 }
 
-/// Whether a `rec` of the variable stands on the path. O(path); the recursion is at most 64 deep in a tree within the
-/// limits.
+/// Whether a `rec` of the variable stands on the path.
 pub fn is_bound(name: &VarName, above: &Above<'_>) -> bool
     ensures { result ≡ is_bound name.now (edges above.now) }
 {
@@ -25,8 +24,7 @@ pub fn is_bound(name: &VarName, above: &Above<'_>) -> bool
     }
 }
 
-/// Whether a `rec` of the variable stands on the path with no message or choice below it: then the recursion comes back
-/// to itself with nothing done in between.
+/// Whether a `rec` of the variable stands on the path below the nearest act, so that no act comes between the two.
 pub fn is_unguarded(name: &VarName, above: &Above<'_>) -> bool
     ensures { result ≡ is_unguarded name.now (edges above.now) }
 {

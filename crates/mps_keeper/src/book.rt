@@ -166,10 +166,6 @@ impl<W: Sink> Recorder for Book<W> {
 
     ghost whole = { whole_of };
 
-    ghost Place = { Unit {0} };
-
-    ghost place = { λ _. tt };
-
     fn records(&self) -> bool {
         true
     }

@@ -35,8 +35,7 @@ pub enum Reply {
 }
 
 impl Reply {
-    /// The code of a refusal, 1 to 19, for clients that have no words; 0 for any other reply. The codes are those of
-    /// docs/FORMATS.md.
+    /// The code of a refusal, 1 to 19; of any other reply 0.
     pub fn code(&self) -> u8
         ensures { result ≡ code_of self.now }
     {
@@ -51,8 +50,8 @@ impl Reply {
         }
     }
 
-    /// Whether the reply can be written as a line: always, and as just one (`one_reply_line`). A caller asks it for the
-    /// clause `text`, also when out of memory. It does not allocate.
+    /// Whether the reply has a text, which each reply has; by `one_reply_line` it has just one. It does not allocate, so
+    /// it can be asked where there is no memory left to write the text.
     pub fn has_text(&self) -> bool
         ensures always { IsTrue result }
         ensures text { (text : List ℕ) × SpellsReply text self.now }
@@ -68,8 +67,7 @@ impl Reply {
         }
     }
 
-    /// Appends the reply's line to `out`, without a line break. Out of memory is the only error, and leaves `out`
-    /// unchanged.
+    /// Writes the reply at the end of `out`, without a line break. Where memory runs out, nothing of it is left there.
     pub fn write(&self, out: &mut Vec<u8>) -> Result<(), AllocError>
         ensures ok { OnOk result
             (AppendsSuch (λ text. SpellsReply text self.now) out.old.items out.new.items) }
@@ -83,7 +81,7 @@ impl Reply {
         written
     }
 
-    // `write` without the clean-up: when out of memory a part may stand in `out`, which `write` truncates.
+    // Writes the reply at the end of `out`, or a part of it where memory runs out.
     fn write_parts(&self, out: &mut Vec<u8>) -> Result<(), AllocError>
         ensures ok { OnOk result
             (AppendsSuch (λ text. SpellsReply text self.now) out.old.items out.new.items) }
@@ -101,8 +99,7 @@ impl Reply {
     }
 }
 
-/// Appends `refused line`, the reply to an unreadable line, without a line break. Out of memory is the only error, and
-/// leaves `out` unchanged.
+/// Writes that a line is unreadable at the end of `out`, without a line break.
 pub fn write_bad_line(out: &mut Vec<u8>) -> Result<(), AllocError>
     ensures ok { OnOk result
         (AppendsSuch (λ text. SpellsReply text BadLine) out.old.items out.new.items) }
@@ -111,8 +108,8 @@ pub fn write_bad_line(out: &mut Vec<u8>) -> Result<(), AllocError>
     out.extend_from_slice(b"refused line")
 }
 
-// Appends `joined`, the session's number and the role's name. When out of memory a part may stand in `out`; the caller
-// truncates it.
+// Writes `joined`, the session's number and the role's name at the end of `out`, or a part of them where memory runs
+// out.
 fn write_joined(session: u64, name: &Name, out: &mut Vec<u8>) -> Result<(), AllocError>
     ensures ok { OnOk result (AppendsSuch
         (λ text. SpellsReply text (Joined session name.now)) out.old.items out.new.items) }
@@ -124,7 +121,7 @@ fn write_joined(session: u64, name: &Name, out: &mut Vec<u8>) -> Result<(), Allo
     write_name(name, out)
 }
 
-/// The reply's line in a buffer of its own, without a line break. It fails only when out of memory.
+/// The line of the reply in a buffer of its own, without a line break.
 pub fn write_answer(alloc: Global, reply: &Reply) -> Result<Vec<u8>, AllocError>
     ensures { IfOk result (λ line. SpellsReply line.items reply.now) }
 {
@@ -133,8 +130,7 @@ pub fn write_answer(alloc: Global, reply: &Reply) -> Result<Vec<u8>, AllocError>
     Ok(line)
 }
 
-/// The line of the reply with this answer, in a buffer of its own, without a line break: for an answer that is kept and
-/// only borrowed, of which `write_answer` would need a copy. It fails only when out of memory.
+/// The line of an answer that is kept for its number, in a buffer of its own, without a line break: that of its reply.
 pub fn write_kept(alloc: Global, answer: &Answer) -> Result<Vec<u8>, AllocError>
     ensures { IfOk result (λ line. SpellsReply line.items (Answered answer.now)) }
 {
@@ -143,8 +139,7 @@ pub fn write_kept(alloc: Global, answer: &Answer) -> Result<Vec<u8>, AllocError>
     Ok(line)
 }
 
-/// Appends the line of the reply with this answer to `out`, without a line break. When out of memory a part may stand
-/// in `out`, for the caller to truncate: so the usual path has no clean-up.
+/// Writes the answer at the end of `out`, without a line break. Where memory runs out, a part of it may stand there.
 #[inline(always)]
 pub fn append_answer(answer: &Answer, out: &mut Vec<u8>) -> Result<(), AllocError>
     ensures ok { OnOk result (AppendsSuch
@@ -163,8 +158,8 @@ pub fn append_answer(answer: &Answer, out: &mut Vec<u8>) -> Result<(), AllocErro
     }
 }
 
-/// Appends the line of a refused command to `out`, without a line break, as `append_answer` does. When out of memory a
-/// part may stand in `out`.
+/// Writes that a command is refused at the end of `out`, without a line break: what `append_answer` writes of such an
+/// answer. Where memory runs out, a part of it may stand there.
 pub fn write_refused(refusal: &Refusal, out: &mut Vec<u8>) -> Result<(), AllocError>
     ensures ok { OnOk result (AppendsSuch
         (λ text. SpellsReply text (Answered (Refused refusal.now))) out.old.items out.new.items) }
@@ -188,7 +183,7 @@ pub fn write_refused(refusal: &Refusal, out: &mut Vec<u8>) -> Result<(), AllocEr
     }
 }
 
-// Appends `refused` and the violation's word. Out of memory is the only error, and leaves `out` unchanged.
+// Writes that a role's type doesn't allow the command at the end of `out`, or nothing where memory runs out.
 fn write_violation(violation: Violation, out: &mut Vec<u8>) -> Result<(), AllocError>
     ensures ok { OnOk result (AppendsSuch
         (λ text. SpellsReply text (Answered (Refused (Violates violation)))) out.old.items out.new.items) }
@@ -205,8 +200,8 @@ fn write_violation(violation: Violation, out: &mut Vec<u8>) -> Result<(), AllocE
     }
 }
 
-// Appends the arguments of `done`: the step's number, and the message that it took, if it took one. When out of memory
-// a part may stand in `out`; the caller truncates it.
+// Writes the number of the step and the message that it took at the end of `out`, or a part of them where memory runs
+// out.
 #[inline(always)]
 fn write_done(done: &Done, out: &mut Vec<u8>) -> Result<(), AllocError>
     ensures ok { OnOk result (AppendsSuch
@@ -224,8 +219,7 @@ fn write_done(done: &Done, out: &mut Vec<u8>) -> Result<(), AllocError>
     }
 }
 
-// Appends a message, a value or a label, as it is spelled. When out of memory a part may stand in `out`; the caller
-// truncates it.
+// Writes the message at the end of `out`, or a part of it where memory runs out.
 fn write_message(message: &Message, out: &mut Vec<u8>) -> Result<(), AllocError>
     ensures ok { OnOk result (AppendsSuch
         (λ text. SpellsToken [] text (message_token message.now)) out.old.items out.new.items) }
@@ -237,7 +231,7 @@ fn write_message(message: &Message, out: &mut Vec<u8>) -> Result<(), AllocError>
     }
 }
 
-// Appends `undone` and the steps' numbers. When out of memory a part may stand in `out`; the caller truncates it.
+// Writes `undone` and the numbers of the steps at the end of `out`, or a part of them where memory runs out.
 fn write_undone(ids: &[StepId], out: &mut Vec<u8>) -> Result<(), AllocError>
     ensures ok { OnOk result (AppendsSuch
         (λ text. SpellsLine [] text (undone_tokens ids.now)) out.old.items out.new.items) }
@@ -247,8 +241,8 @@ fn write_undone(ids: &[StepId], out: &mut Vec<u8>) -> Result<(), AllocError>
     write_ids(ids, out)
 }
 
-// Appends `news`, the journal's length and the steps' numbers. When out of memory a part may stand in `out`; the caller
-// truncates it.
+// Writes `news`, the length of the journal and the numbers of the steps at the end of `out`, or a part of them where
+// memory runs out.
 fn write_news(length: u64, ids: &[StepId], out: &mut Vec<u8>) -> Result<(), AllocError>
     ensures ok { OnOk result (AppendsSuch
         (λ text. SpellsLine [] text (news_tokens length ids.now)) out.old.items out.new.items) }
@@ -259,8 +253,7 @@ fn write_news(length: u64, ids: &[StepId], out: &mut Vec<u8>) -> Result<(), Allo
     write_ids(ids, out)
 }
 
-// Appends the numbers of steps, each after a space. When out of memory a part may stand in `out`; the caller truncates
-// it.
+// Writes the numbers of the steps at the end of a line, each after a space, or a part of them where memory runs out.
 fn write_ids(ids: &[StepId], out: &mut Vec<u8>) -> Result<(), AllocError>
     ensures ok { OnOk result ((start : List ℕ) (first : Token) (others : List Token)
         → AppendsSuch (λ text. SpellsLine [] text (first ∷ others)) start out.old.items
@@ -274,8 +267,7 @@ fn write_ids(ids: &[StepId], out: &mut Vec<u8>) -> Result<(), AllocError>
     Ok(())
 }
 
-// The code of a command's refusal, 1 to 13 and 18, as docs/FORMATS.md lists them: new ones come at the end, so they
-// aren't in order.
+// The code of the refusal of a command.
 fn refusal_code(refusal: &Refusal) -> u8
     ensures { result ≡ refusal_code refusal.now }
 {
@@ -291,7 +283,7 @@ fn refusal_code(refusal: &Refusal) -> u8
     }
 }
 
-// The code of a violation, 1 to 7, as docs/FORMATS.md lists them, in the order of `Violation`.
+// The code of a violation: of what a role's type doesn't allow.
 fn violation_code(violation: Violation) -> u8
     ensures { result ≡ violation_code violation }
 {

@@ -7,8 +7,8 @@ use mps_base::{Name, Role, Sort, VarName};
 use std::alloc::{AllocError, Global};
 
 impl Local {
-    /// Builds `rec name . body`; in the body the variable stands for the whole. One box is allocated. When out of
-    /// memory the body is dropped. Nothing is checked here: `first_fault` does that.
+    /// `rec` of the variable, and then the body, in which the variable stands for the whole. The body is dropped where
+    /// memory runs out.
     pub fn rec(alloc: Global, name: VarName, body: Local) -> Result<Local, AllocError>
         ensures { IfOk result (λ t. plain t ≡ Rec name (plain body)) }
     {
@@ -16,8 +16,7 @@ impl Local {
         Ok(Local::Rec(name, body))
     }
 
-    /// Builds an output of a value of the sort to the peer, and then `next`. One box is allocated. When out of memory
-    /// `next` is dropped. Nothing is checked here: `first_fault` does that.
+    /// An output of a value of the sort to the peer, and then `next`, which is dropped where memory runs out.
     pub fn send(alloc: Global, peer: Role, sort: Sort, next: Local) -> Result<Local, AllocError>
         ensures { IfOk result (λ t. plain t ≡ Send peer sort (plain next)) }
     {
@@ -25,8 +24,7 @@ impl Local {
         Ok(Local::Send { peer, sort, next })
     }
 
-    /// Builds an input of a value of the sort from the peer, and then `next`. One box is allocated. When out of memory
-    /// `next` is dropped. Nothing is checked here: `first_fault` does that.
+    /// An input of a value of the sort from the peer, and then `next`, which is dropped where memory runs out.
     pub fn recv(alloc: Global, peer: Role, sort: Sort, next: Local) -> Result<Local, AllocError>
         ensures { IfOk result (λ t. plain t ≡ Recv peer sort (plain next)) }
     {
@@ -36,8 +34,7 @@ impl Local {
 }
 
 impl Branches {
-    /// Builds branches from the first, a label and what follows it, and the others. Two boxes are allocated. When out
-    /// of memory both trees are dropped. Equal labels are not refused here: `first_fault` does that.
+    /// A branch in front of the others. What follows its label, and the others, are dropped where memory runs out.
     pub fn more(
         alloc: Global,
         label: Name,

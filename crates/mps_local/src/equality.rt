@@ -5,8 +5,7 @@ ghost use Rattle.mps_local.specs.Projection.{same, same_branches};
 
 use crate::{Branches, Local};
 
-/// Whether two types are the same tree, with the same names of variables: so `rec X . X` and `rec Y . Y` differ, though
-/// they mean the same. For merging, which asks for equal trees. The recursion is as deep as the smaller tree.
+/// Whether two types are the same tree, down to the names of variables.
 #[cycle(same)]
 pub(crate) fn same(one: &Local, other: &Local) -> bool
     ensures { result ≡ same (plain one.now) (plain other.now) }
@@ -14,43 +13,42 @@ pub(crate) fn same(one: &Local, other: &Local) -> bool
     match (one, other) {
         (Local::End, Local::End) => true,
         (Local::Var(x), Local::Var(y)) => x.is(y),
-        (Local::Rec(x, body), Local::Rec(y, other_body)) => x.is(y) && same(body, other_body),
+        (Local::Rec(x, body), Local::Rec(y, rest)) => x.is(y) && same(body, rest),
         (
             Local::Send { peer, sort, next },
             Local::Send {
-                peer: other_peer,
-                sort: other_sort,
-                next: other_next,
+                peer: from,
+                sort: of,
+                next: rest,
             },
         )
         | (
             Local::Recv { peer, sort, next },
             Local::Recv {
-                peer: other_peer,
-                sort: other_sort,
-                next: other_next,
+                peer: from,
+                sort: of,
+                next: rest,
             },
-        ) => peer.is(*other_peer) && sort.is(*other_sort) && same(next, other_next),
+        ) => peer.is(*from) && sort.is(*of) && same(next, rest),
         (
             Local::Select { peer, branches },
             Local::Select {
-                peer: other_peer,
-                branches: other_branches,
+                peer: from,
+                branches: rest,
             },
         )
         | (
             Local::Branch { peer, branches },
             Local::Branch {
-                peer: other_peer,
-                branches: other_branches,
+                peer: from,
+                branches: rest,
             },
-        ) => peer.is(*other_peer) && same_branches(branches, other_branches),
+        ) => peer.is(*from) && same_branches(branches, rest),
         _ => false,
     }
 }
 
-// Whether both have the same labels in the same order, and after each the same type. The same labels in another order
-// differ.
+// Whether two lists of branches have the same labels in the same order, and after each the same type.
 #[cycle(same)]
 fn same_branches(one: &Branches, other: &Branches) -> bool
     ensures { result ≡ same_branches (plain_branches one.now) (plain_branches other.now) }
@@ -64,13 +62,11 @@ fn same_branches(one: &Branches, other: &Branches) -> bool
                 others,
             },
             Branches::More {
-                label: other_label,
-                next: other_next,
-                others: other_branches,
+                label: name,
+                next: rest,
+                others: more,
             },
-        ) => label.is(other_label)
-            && same(next, other_next)
-            && same_branches(others, other_branches),
+        ) => label.is(name) && same(next, rest) && same_branches(others, more),
         _ => false,
     }
 }

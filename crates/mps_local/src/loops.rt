@@ -18,8 +18,8 @@ enum Bound<'a> {
     Inside(&'a VarName, &'a Bound<'a>),
 }
 
-/// Whether the loop `rec name . body` projects to the end for the role: the role neither sends nor receives in the
-/// body, and no variable of an outer loop stands there. Without this rule its projection would be an unguarded loop.
+/// Whether the loop `rec name . body` is the end for the role: the role takes no part in it, and it has no free
+/// variable.
 pub(crate) fn is_idle(roles: &[Name], name: &VarName, body: &Global, role: Role) -> bool
     requires few { length roles.now ≤ 8 }
     ensures { result ≡ is_idle roles.now role name.now (plain body.now) }
@@ -27,8 +27,7 @@ pub(crate) fn is_idle(roles: &[Name], name: &VarName, body: &Global, role: Role)
     !occurs(roles, body, role) && is_closed(body, &Bound::Inside(name, &Bound::Nothing))
 }
 
-// Whether the role sends or receives anywhere in the tree. O(nodes); the recursion is as deep as the tree, at most 64
-// levels.
+// Whether the role sends or receives anywhere in the tree.
 #[cycle(occurs)]
 fn occurs(roles: &[Name], tree: &Global, role: Role) -> bool
     requires few { length roles.now ≤ 8 }
@@ -59,7 +58,7 @@ fn occurs(roles: &[Name], tree: &Global, role: Role) -> bool
     }
 }
 
-// `occurs` for the trees of a choice's branches: whether the role sends or receives in one of them.
+// Whether the role sends or receives anywhere in the branches.
 #[cycle(occurs)]
 fn occurs_in(roles: &[Name], branches: &Branches, role: Role) -> bool
     requires few { length roles.now ≤ 8 }
@@ -73,8 +72,7 @@ fn occurs_in(roles: &[Name], branches: &Branches, role: Role) -> bool
     }
 }
 
-// Whether each variable of the tree stands in a `rec` of it, or is one of `bound`: it has no free variable. The
-// recursion is as deep as the tree, at most 64 levels.
+// Whether each variable of the tree stands in a `rec` of it, or is one of `bound`.
 #[cycle(closed)]
 fn is_closed(tree: &Global, bound: &Bound<'_>) -> bool
     ensures { result ≡ is_closed (names_bound bound.now) (plain tree.now) }
@@ -88,7 +86,7 @@ fn is_closed(tree: &Global, bound: &Bound<'_>) -> bool
     }
 }
 
-// `is_closed` for each tree of a choice's branches, under the same `bound`.
+// Whether each variable of the branches stands in a `rec` of them, or is one of `bound`.
 #[cycle(closed)]
 fn are_closed(branches: &Branches, bound: &Bound<'_>) -> bool
     ensures { result ≡ are_closed (names_bound bound.now) (plain_branches branches.now) }
@@ -101,7 +99,7 @@ fn are_closed(branches: &Branches, bound: &Bound<'_>) -> bool
     }
 }
 
-// Whether the variable is one of `bound`, a linked list on the stack, so that a walk needs no memory.
+// Whether the variable is one of `bound`.
 fn is_bound(name: &VarName, bound: &Bound<'_>) -> bool
     ensures { result ≡ list_any (bytes_eq name.now) (names_bound bound.now) }
 {
@@ -111,8 +109,7 @@ fn is_bound(name: &VarName, bound: &Bound<'_>) -> bool
     }
 }
 
-/// How many choices the tree has, at most 256. The first choice after the tree gets its number by it, where the tree is
-/// skipped.
+/// How many choices the tree has, which is at most 256.
 #[cycle(choices)]
 pub(crate) fn choice_count(tree: &Global) -> usize
     requires few { choice_count (plain tree.now) ≤ 256 }
@@ -125,7 +122,7 @@ pub(crate) fn choice_count(tree: &Global) -> usize
     }
 }
 
-// `choice_count` for the trees of a choice's branches, added up.
+// How many choices the branches have, which is at most 256.
 #[cycle(choices)]
 fn branch_choices(branches: &Branches) -> usize
     requires few { branch_choices (plain_branches branches.now) ≤ 256 }

@@ -13,8 +13,7 @@ pub struct Arms<'a> {
 }
 
 impl Branches {
-    /// An iterator over the branches in order, each a label and what follows it. It borrows the type, and does not
-    /// allocate.
+    /// The branches from the first to the last.
     pub fn iter(&self) -> Arms<'_>
         ensures { arms_left result ≡ plain_branches self.now }
     {
@@ -32,7 +31,7 @@ impl<'a> Iterator for Arms<'a> {
 
     ghost remaining = { λ s. at_most (arm_count (arms_left s)) };
 
-    // The next branch as its label and what follows it, borrowed from the type, or `None` at the end. O(1).
+    // The next branch, as its label and what follows it, until none is left.
     fn next(&mut self) -> Option<(&'a Name, &'a Local)> {
         match self.rest {
             Branches::NoMore => None,

@@ -31,8 +31,7 @@ impl Model for Queues {
     ghost invariant = { λ q. length q.fronts ≡ 64 };
 }
 
-// The front of a queue after its first send is received: the pair's next send, or none. Apart from `take`, which stores
-// it in the array.
+// The front of a queue after its first send was received: the pair's next send, if there is one.
 fn taken_front(arena: &Arena, front: Link) -> Link
     ensures { result ≡ taken arena.now.keyed_steps front }
 {
@@ -42,8 +41,8 @@ fn taken_front(arena: &Arena, front: Link) -> Link
     }
 }
 
-// The front of a queue after the pair's last receipt is undone: the send before the old front or, where nothing waited,
-// the pair's last send.
+// The front of a queue without the pair's last receipt: the send before the old front or, where nothing waited, the
+// pair's last send.
 fn returned_front(arena: &Arena, last: Option<Key>, front: Link) -> Link
     ensures { result ≡ returned arena.now.keyed_steps last front }
 {
@@ -53,7 +52,7 @@ fn returned_front(arena: &Arena, last: Option<Key>, front: Link) -> Link
     }
 }
 
-// The front of a queue after the pair's last send is undone: none where that send was the front, else as before.
+// The front of a queue without the pair's last send: none where that send was the front, else as before.
 fn dropped_front(last: Option<Key>, front: Link) -> Link
     ensures { result ≡ dropped last front }
 {
@@ -65,7 +64,7 @@ fn dropped_front(last: Option<Key>, front: Link) -> Link
 }
 
 impl Queues {
-    /// The queues of 8 roles in which nothing waits: 64 fronts, kept inline. It does not allocate.
+    /// Queues in which nothing waits.
     pub fn new() -> Queues
         ensures { AreFronts [] result }
     {
@@ -73,7 +72,7 @@ impl Queues {
         Queues { fronts: [none; 64] }
     }
 
-    /// The key of the first send from one role to the other that isn't received, or `None` where nothing waits. O(1).
+    /// The key of the first send from one role to the other that isn't received, if there is one.
     pub fn front(&self, from: Role, to: Role) -> Option<Key>
         requires from { from < 8 }
         requires to { to < 8 }
@@ -82,8 +81,8 @@ impl Queues {
         self.fronts[from.index() * 8 + to.index()].key()
     }
 
-    /// The key of the k-th send from one role to the other that isn't received, from 0, or `None` where not so many
-    /// wait. O(k): it walks from the front.
+    /// The key of the k-th send from one role to the other that isn't received, from 0, if so many wait. It takes O(k)
+    /// time.
     pub fn nth(&self, arena: &Arena, from: Role, to: Role, k: usize) -> Option<Key>
         requires from { from < 8 }
         requires to { to < 8 }
@@ -99,8 +98,7 @@ impl Queues {
         Some(at)
     }
 
-    /// Appends a send to its pair's queue. Only an empty queue changes, since the arena links the sends; so the send
-    /// may join the arena before that or after. O(1).
+    /// Puts a send at the end of its pair's queue. The send may join the arena before that or after.
     pub fn push(&mut self, from: Role, to: Role, key: Key)
         requires from { from < 8 }
         requires to { to < 8 }
@@ -113,8 +111,8 @@ impl Queues {
         }
     }
 
-    /// Removes the first send from its pair's queue, before its receipt joins the arena, and returns its key; `None`
-    /// where nothing waits, and then nothing changes. O(1).
+    /// Takes the first send off its pair's queue, before its receipt joins the arena, and tells its key; none where
+    /// nothing waits.
     pub fn take(&mut self, arena: &Arena, from: Role, to: Role) -> Option<Key>
         requires from { from < 8 }
         requires to { to < 8 }
@@ -131,8 +129,7 @@ impl Queues {
         front.key()
     }
 
-    /// Undoes `take`: the send of the pair's last receipt is in front of the queue again. Called before the receipt
-    /// leaves the arena. O(1).
+    /// Puts the send of the pair's last receipt back in front of the queue, before the receipt leaves the arena.
     pub fn put_back(&mut self, arena: &Arena, from: Role, to: Role)
         requires from { from < 8 }
         requires to { to < 8 }
@@ -149,8 +146,7 @@ impl Queues {
         self.fronts[at] = returned_front(arena, last, front);
     }
 
-    /// Undoes `push`: the pair's last send is in its queue no more. Called before the send leaves the arena, and only
-    /// for one that isn't received. O(1).
+    /// Drops the pair's last send from its queue, before the send leaves the arena.
     pub fn drop_last(&mut self, arena: &Arena, from: Role, to: Role)
         requires from { from < 8 }
         requires to { to < 8 }

@@ -24,8 +24,7 @@ impl Model for NarrowName {
 }
 
 impl NarrowName {
-    /// Packs a name into 33 bytes. Its length, at most 32, fits a byte; the padding is copied too, in one move of fixed
-    /// size.
+    /// Puts a name into this form. Its length, at most 32, fits a byte.
     #[inline(always)]
     pub(crate) fn of(name: &Name) -> NarrowName
         ensures { result ≡ name.now }
@@ -36,7 +35,7 @@ impl NarrowName {
         }
     }
 
-    /// The name again: its bytes are tested once more, which always succeeds, since they were a name's.
+    /// Makes the name again.
     pub(crate) fn name(&self) -> Name
         ensures { result ≡ self.now }
     {

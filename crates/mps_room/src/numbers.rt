@@ -31,8 +31,7 @@ pub enum Position {
 }
 
 impl Position {
-    /// Where a number stands, by the number of the newest accepted command, 0 where none was: `Next` is `last` + 1,
-    /// `Last` is `last` itself unless it is 0. At 2^64 - 1 there is no next.
+    /// Where a number stands, by the number of the newest command, which is 0 where none was accepted.
     pub fn of(last: u64, number: u64) -> Position
         ensures { IsPosition last number result }
     {
@@ -60,14 +59,14 @@ pub struct Numbers {
 }
 
 impl Numbers {
-    /// The state of a caller without an accepted numbered command: the last number is 0, and no answer is kept.
+    /// Those of a caller that had no command with a number accepted.
     pub fn new() -> Numbers
         ensures { result.newest ≡ None }
     {
         Numbers { newest: None }
     }
 
-    /// `Numbers::new` for so many callers, in one list. It fails only when out of memory.
+    /// Those of so many callers, none of which had a command with a number accepted.
     pub fn of_each(alloc: Global, callers: usize) -> Result<Vec<Numbers>, AllocError>
         ensures count { IfOk result (λ each. length each.items ≡ callers) }
         ensures none { IfOk result (λ each. All (λ n. n.newest ≡ None) each.items) }
@@ -79,8 +78,7 @@ impl Numbers {
         Ok(each)
     }
 
-    /// The number of the newest accepted numbered command, 0 before the first: by it `Position::of` judges the next
-    /// one.
+    /// The last number, 0 at first.
     pub fn last(&self) -> u64
         ensures { result ≡ last_of self.now.newest }
     {
@@ -90,7 +88,7 @@ impl Numbers {
         }
     }
 
-    /// The answer to the newest accepted numbered command, borrowed; `None` before the first.
+    /// The answer to the newest numbered command that was accepted.
     pub fn kept(&self) -> Option<&Answer>
         ensures { option_map (λ a. a.now) result ≡ kept_of self.now.newest }
     {
@@ -100,8 +98,7 @@ impl Numbers {
         }
     }
 
-    /// Stores the answer under its number, and drops the one before it: one is enough, since only the last number may
-    /// come again.
+    /// Keeps the answer under its number, in place of the one before it.
     #[inline(always)]
     pub fn keep(&mut self, number: u64, answer: Answer)
         ensures { self.new.newest ≡ Some (record { number = number; answer = answer }) }

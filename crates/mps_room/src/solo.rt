@@ -17,8 +17,7 @@ pub struct Solo {
 }
 
 impl Solo {
-    /// A caller for this one role of the room, without an accepted numbered command yet. It takes the room, and does
-    /// not allocate.
+    /// A caller for the role, who gave no command with a number yet.
     pub fn new(room: Room, role: Role) -> Solo
         requires { role < length room.types }
         ensures room { result.room ≡ room }
@@ -52,28 +51,28 @@ impl Caller for Solo {
 
     ghost may_tell = { λ _. true };
 
-    // The names of the room's roles, 2 to 8, in order.
+    // The names of the room's roles.
     fn roles(&self) -> &Roles {
         self.room.names()
     }
 
-    // Applies the command to the room at once, for the role: a `Solo` owns its room, so it never waits.
+    // Gives the command to the room, for the role.
     fn call(&mut self, command: Command) -> Answer {
         self.room.apply(self.role, command)
     }
 
-    // The number of the newest accepted numbered command, 0 before the first.
+    // The number of the newest numbered command that was accepted, 0 at first.
     fn last(&self) -> u64 {
         self.numbers.last()
     }
 
-    // The answer to the newest accepted numbered command, or `None` before the first.
+    // The answer to the newest numbered command that was accepted, if there is one.
     fn kept(&self) -> Option<&Answer> {
         self.numbers.kept()
     }
 
-    // Applies the command to the room at once, and stores an accepted answer under the number. A refusal changes
-    // nothing, so the number may come again.
+    // Gives the command to the room, for the role, and keeps the answer under the number, which is the next, if it is
+    // accepted.
     fn call_next(&mut self, number: u64, command: Command) -> Result<(), Refusal> {
         match self.room.apply(self.role, command) {
             Answer::Refused(refusal) => Err(refusal),
@@ -84,7 +83,7 @@ impl Caller for Solo {
         }
     }
 
-    // Always: nothing is recorded outside the room, so no record is lost.
+    // Always: nothing is recorded outside the room, so no line is lost.
     fn may_tell(&self) -> bool {
         true
     }

@@ -1,8 +1,7 @@
 //! Worked states, which show that the definitions say what they mean.
 ghost use Rattle.mps_show.specs.Examples.{AMessageThatWaitsIsShown, AReceivedMessageIsShown, ALabelThatWaitsIsShown};
 
-/// What is shown of short sessions, as texts that were written out by hand: tests of the definitions, checked by the
-/// prover.
+/// What is shown of short sessions, as texts that were written out by hand.
 pub fn worked_states()
     ensures a_message_that_waits_is_shown { AMessageThatWaitsIsShown }
     ensures a_received_message_is_shown { AReceivedMessageIsShown }

@@ -12,8 +12,7 @@ use mps_base::{Name, Role, Roles, Sort};
 use mps_session::{Expect, Session};
 use std::alloc::AllocError;
 
-/// Appends what the role's type allows next, in words: `end`, or an act's word, the peer, and a sort or labels. When
-/// out of memory a part may stand in `out`; the caller drops it.
+/// Writes what the role may do next, as words at the end of `out`. After an error a part may stand there.
 pub(crate) fn put_head(
     out: &mut Vec<u8>,
     names: &Roles,
@@ -38,7 +37,7 @@ pub(crate) fn put_head(
     }
 }
 
-// Appends `end`: the role's type has ended. It fails only when out of memory, and appends nothing then.
+// Writes `end`: there is nothing more to do.
 fn put_end(out: &mut Vec<u8>) -> Result<(), AllocError>
     ensures text { OnOk result (out.new.items ≡ out.old.items ++ codes "end") }
     ensures plain { OnOk result (AllByRecursion IsPlainByte (codes "end")) }
@@ -46,8 +45,8 @@ fn put_end(out: &mut Vec<u8>) -> Result<(), AllocError>
     out.extend_from_slice(b"end")
 }
 
-// Appends an act of a value: its word, the peer and the sort, with a space between two. When out of memory a part may
-// stand in `out`; the caller drops it.
+// Writes an action of a value: its word, the peer and the sort, with a space between two. After an error a part may
+// stand in `out`.
 fn put_action(out: &mut Vec<u8>, word: &[u8], peer: &Name, sort: Sort) -> Result<(), AllocError>
     requires { AllByRecursion IsPlainByte word.now }
     ensures text { OnOk result (out.new.items ≡ out.old.items ++ spaced (word.now ∷ peer.now ∷ sort_word sort ∷ [])) }
@@ -58,8 +57,8 @@ fn put_action(out: &mut Vec<u8>, word: &[u8], peer: &Name, sort: Sort) -> Result
     put_behind(out, sort.word())
 }
 
-// Appends a choice: its word, the peer and the labels, at most 16, with a space between two. When out of memory a part
-// may stand in `out`; the caller drops it.
+// Writes a choice: its word, the peer and the labels, with a space between two. After an error a part may stand in
+// `out`.
 fn put_choice(
     out: &mut Vec<u8>,
     word: &[u8],
@@ -78,7 +77,7 @@ fn put_choice(
     Ok(())
 }
 
-// Appends a space and a word. When out of memory the space may stand in `out` alone; the caller drops it.
+// Writes a space and a word. After an error the space may stand in `out` alone.
 fn put_behind(out: &mut Vec<u8>, word: &[u8]) -> Result<(), AllocError>
     ensures { OnOk result (out.new.items ≡ out.old.items ++ 32 ∷ word.now) }
 {

@@ -27,8 +27,8 @@ pub(crate) struct Draft {
     pub(crate) targets: Vec<Node>,
 }
 
-// The node of a variable: that of the nearest `rec` of it, as `bound` lists them. One without a `rec` would get node 0;
-// no closed type has such a variable. It does not allocate.
+// The node of a variable, which is that of the nearest `rec` of it. One without a `rec` would get node 0; no closed
+// type has such a variable.
 fn node_of(name: &VarName, bound: &Bound<'_>) -> Node
     ensures { result ≡ places_of bound.now name.now }
 {
@@ -44,8 +44,8 @@ fn node_of(name: &VarName, bound: &Bound<'_>) -> Node
     }
 }
 
-// The node of a type whose rows begin at the place `at`. A variable has no row, and takes the node of its `rec`; a
-// `rec` has none either, and takes the node of its body. So recursion in the type is a jump back in the table.
+// The node of a type whose rows begin at the place `at`. A variable has no row, and the node of its `rec`; a `rec` has
+// no row of its own either, and the node of its body.
 fn start(tree: &Local, bound: &Bound<'_>, at: usize) -> Node
     requires few { at ≤ 256 }
     ensures { result ≡ start (places_of bound.now) at (plain tree.now) }
@@ -58,8 +58,7 @@ fn start(tree: &Local, bound: &Bound<'_>, at: usize) -> Node
     }
 }
 
-// How many rows a type has: one for each action and each end, none for a `rec` or a variable. So the place where the
-// next branch begins is known before the rows are there.
+// How many rows a type has: one for each action and each end.
 #[cycle(size)]
 fn size(tree: &Local) -> usize
     requires few { size (plain tree.now) ≤ 256 }
@@ -75,7 +74,7 @@ fn size(tree: &Local) -> usize
     }
 }
 
-// `size` for the types of a choice's branches, added up: their rows come one after the other.
+// How many rows the types after the labels have together.
 #[cycle(size)]
 fn branch_size(branches: &Branches) -> usize
     requires few { branch_size (plain_branches branches.now) ≤ 256 }
@@ -87,8 +86,7 @@ fn branch_size(branches: &Branches) -> usize
     }
 }
 
-/// Lays a closed type out in rows, the first at place 0, and returns the lists with the node of the type. It fails only
-/// when out of memory.
+/// Lays a closed type out, its first row at place 0, and says which node the type has.
 pub(crate) fn laid_out(alloc: Global, tree: &Local) -> Result<(Draft, Node), AllocError>
     requires rows { size (plain tree.now) ≤ 256 }
     requires labels { length (all_labels (plain tree.now)) ≤ 256 }
@@ -101,7 +99,7 @@ pub(crate) fn laid_out(alloc: Global, tree: &Local) -> Result<(Draft, Node), All
 }
 
 impl Draft {
-    // The draft before any row: three empty lists, which do not allocate yet.
+    // A draft that has no rows and no labels.
     fn new(alloc: Global) -> Draft
         ensures rows { result.rows.items ≡ [] }
         ensures labels { result.labels.items ≡ [] }
@@ -114,8 +112,8 @@ impl Draft {
         }
     }
 
-    // Appends the rows and labels of a type, node by node in preorder; `bound` has the nodes of the variables that are
-    // bound around it. It fails only when out of memory: some may be appended then, and the draft is dropped.
+    // Adds the rows and the labels of a type, in which the variables that are bound outside have the nodes of `bound`.
+    // After an error some of them may be there.
     #[cycle(lay)]
     fn lay(&mut self, tree: &Local, bound: &Bound<'_>) -> Result<(), AllocError>
         requires rows { row_count self.old + size (plain tree.now) ≤ 256 }
@@ -170,8 +168,7 @@ impl Draft {
         }
     }
 
-    // `lay` for the types of a choice's branches, in order, whose labels are there already. After an error some rows
-    // may be appended.
+    // Adds the rows and the labels of the types that follow the labels, branch by branch.
     #[cycle(lay)]
     fn lay_branches(&mut self, branches: &Branches, bound: &Bound<'_>) -> Result<(), AllocError>
         requires rows { row_count self.old + branch_size (plain_branches branches.now) ≤ 256 }
@@ -189,8 +186,8 @@ impl Draft {
         }
     }
 
-    // Appends the labels of the choice whose row comes next, each with the node that follows it, and returns the place
-    // of the first and how many they are, both at most 256. After an error some labels may be appended.
+    // Adds the labels of the choice whose row comes next, each with the node after it, and says where the first stands
+    // and how many they are. Both numbers are at most 256.
     fn lay_labels(
         &mut self,
         branches: &Branches,
@@ -211,8 +208,7 @@ impl Draft {
         Ok((first as u16, count as u16))
     }
 
-    // The recursion of `lay_labels`: appends the labels of branches whose rows begin at the place `at`, each with its
-    // node. After an error some labels may be appended.
+    // Adds the labels of branches whose rows begin at the place `at`, each with the node after it.
     fn push_labels(
         &mut self,
         branches: &Branches,
@@ -236,16 +232,14 @@ impl Draft {
         }
     }
 
-    // Appends a row. Apart, so that its contract says `Adds`, by which the proof of `lay` goes. It fails only when out
-    // of memory, and appends nothing then.
+    // Adds a row after the others.
     fn push_row(&mut self, row: TableRow) -> Result<(), AllocError>
         ensures { OnOk result (Adds self.old self.new (row ∷ []) [] []) }
     {
         Ok(self.rows.push(row)?)
     }
 
-    // Appends a label, and at the same place of its own list the node that follows it. When out of memory one of the
-    // lists may be longer by one; the draft is dropped then.
+    // Adds a label after the others, and at the same place of its own list the node that follows the label.
     fn push_label(&mut self, label: Name, node: Node) -> Result<(), AllocError>
         ensures { OnOk result (Adds self.old self.new [] (label ∷ []) (node ∷ [])) }
     {

@@ -4,8 +4,6 @@
 #[cfg(test)]
 mod fake;
 #[cfg(test)]
-mod orders;
-#[cfg(test)]
 mod parts;
 #[cfg(test)]
 mod reversals;

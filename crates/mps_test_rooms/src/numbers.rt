@@ -5,18 +5,16 @@ use mps_command::{Answer, Command, StepIds};
 use mps_line::read_numbered;
 use mps_room::{Caller, Numbers, Position, Solo, Told, call_numbered};
 use std::alloc::Global;
-use std::process::Abort;
 use std::test::Fail;
 
-// Each of the numbers stands where its row says.
-fn stand(rt: &impl Abort, numbers: &Numbers, rows: &[(u64, Position)]) {
-    for (number, position) in rows {
-        let found = Position::of(numbers.last(), *number);
-        assert!(rt;
-            found == *position,
-            "the position of number {number}: {found:?} for {position:?}"
-        );
+// Whether each of the numbers stands where its row says.
+fn stand(numbers: &Numbers, rows: &[(u64, Position)]) -> bool {
+    for row in rows {
+        if Position::of(numbers.last(), row.0) != row.1 {
+            return false;
+        }
     }
+    true
 }
 
 // Numbers, and where they stand before any is accepted.
@@ -48,21 +46,16 @@ fn is_kept(alloc: Global, numbers: &Numbers) -> Result<bool, Fail> {
     }
 }
 
-// `mps_room::Numbers` keeps the newest accepted number with its answer, and `Position::of` says which number may come
-// next.
+// `Numbers` keeps the newest accepted number with its answer, and `Position::of` says which number may come next.
 #[test]
-fn the_newest_number_is_kept_with_its_answer(rt: HostRuntime) -> Result<(), Fail> {
+fn keeps_the_newest_number(rt: HostRuntime) -> Result<(), Fail> {
     let answer = undone(rt.alloc())?;
     let mut numbers = Numbers::new();
-    assert_eq!(rt; numbers.last(), 0, "the newest number at first");
-    assert!(rt; numbers.kept().is_none(), "no answer is kept at first");
-    stand(&rt, &numbers, AT_FIRST);
+    assert!(rt; numbers.last() == 0 && numbers.kept().is_none());
+    assert!(rt; stand(&numbers, AT_FIRST));
     numbers.keep(1, answer);
-    stand(&rt, &numbers, AFTER_ONE);
-    assert!(rt;
-        is_kept(rt.alloc(), &numbers)?,
-        "`undone 7` is kept under the number 1"
-    );
+    assert!(rt; stand(&numbers, AFTER_ONE));
+    assert!(rt; is_kept(rt.alloc(), &numbers)?);
     Ok(())
 }
 
@@ -71,7 +64,7 @@ fn numbered<C: Caller>(alloc: Global, caller: &mut C, line: &str) -> Result<Told
     let (number, change) = read_numbered(alloc, caller.roles(), line.as_bytes())?;
     let number = number.ok_or("a number")?;
     match change {
-        Command::News(_) | Command::Show => Err("a numbered command that changes something".into()),
+        Command::News(_) | Command::Show => Err("a change".into()),
         change => Ok(call_numbered(caller, number, change)),
     }
 }
@@ -93,34 +86,26 @@ fn kept_text<C: Caller>(alloc: Global, caller: &C) -> Result<String, Fail> {
 // A line with its number, what it comes to, and what is kept then, under which number.
 pub(crate) type Row<'a> = (&'a str, &'a str, u64, &'a str);
 
-// The row comes to what it says.
-fn is_numbered<A: Abort, C: Caller>(
-    rt: &A,
-    alloc: Global,
-    caller: &mut C,
-    row: Row<'_>,
-) -> Result<(), Fail> {
-    let (line, comes, last, keeps) = row;
-    let came = came_text(alloc, caller, line)?;
-    assert!(rt; came.as_str() == comes, "{line}: {came} for {comes}");
-    assert_eq!(rt; caller.last(), last, "the newest number after {line}");
-    let kept = kept_text(alloc, caller)?;
-    assert!(rt;
-        kept.as_str() == keeps,
-        "kept after {line}: {kept} for {keeps}"
-    );
-    Ok(())
+// Whether the row comes to what it says.
+fn is_numbered<C: Caller>(alloc: Global, caller: &mut C, row: Row<'_>) -> Result<bool, Fail> {
+    let came = came_text(alloc, caller, row.0)?;
+    Ok(
+        came.as_str() == row.1
+            && caller.last() == row.2
+            && kept_text(alloc, caller)?.as_str() == row.3,
+    )
 }
 
 // The rows come to what they say, one after the other.
-pub(crate) fn are_numbered<A: Abort, C: Caller>(
-    rt: &A,
+pub(crate) fn are_numbered<C: Caller>(
     alloc: Global,
     caller: &mut C,
     rows: &[Row<'_>],
 ) -> Result<(), Fail> {
     for row in rows {
-        is_numbered(rt, alloc, caller, *row)?;
+        if !is_numbered(alloc, caller, *row)? {
+            return Err(row.0.into());
+        }
     }
     Ok(())
 }
@@ -160,22 +145,22 @@ fn news<C: Caller>(alloc: Global, caller: &mut C) -> Result<String, Fail> {
     told(alloc, &caller.call(Command::News(0)))
 }
 
-// The rows come to what they say, one after the other. Five of them are called and accepted, so there are five entries,
-// and no news, since nobody else took a step back.
-fn goes_by_numbers(rt: &impl Abort, alloc: Global, solo: &mut Solo) -> Result<(), Fail> {
-    are_numbered(rt, alloc, solo, NUMBERED)?;
-    assert_eq!(rt; solo.room.entries(), 5, "the count of entries");
-    let told = news(alloc, solo)?;
-    assert!(rt; told.as_str() == "news 5", "the news: {told} for news 5");
-    assert_eq!(rt; solo.last(), 5, "the newest number after the news");
-    assert_eq!(rt; solo.roles().count(), 3, "the count of roles");
-    Ok(())
+// Whether the rows come to what they say, one after the other. Five of them are called and accepted, so there are five
+// entries, and no news, since nobody else took a step back.
+fn goes_by_numbers(alloc: Global, solo: &mut Solo) -> Result<bool, Fail> {
+    are_numbered(alloc, solo, NUMBERED)?;
+    Ok(
+        solo.room.entries() == 5
+            && news(alloc, solo)?.as_str() == "news 5"
+            && solo.last() == 5
+            && solo.roles().count() == 3,
+    )
 }
 
-// `mps_room::call_numbered` calls a number's command once (`Fresh`), keeps its answer (`Kept`), and calls no other
-// (`Wrong`).
+// `call_numbered` calls a number's command once (`Fresh`), keeps its answer (`Kept`), and calls no other (`Wrong`).
 #[test]
-fn a_number_is_called_once_and_its_answer_kept(rt: HostRuntime) -> Result<(), Fail> {
+fn calls_with_numbers(rt: HostRuntime) -> Result<(), Fail> {
     let mut solo = new_solo(rt.alloc())?;
-    goes_by_numbers(&rt, rt.alloc(), &mut solo)
+    assert!(rt; goes_by_numbers(rt.alloc(), &mut solo)?);
+    Ok(())
 }

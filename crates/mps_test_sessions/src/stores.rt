@@ -66,11 +66,7 @@ fn asked(rt: &impl Abort, stores: &mut Stores, role: Role, keys: &[Key], ask: &A
 fn shows(rt: &impl Abort, stores: &Stores, role: Role, keys: &[Key], want: &[(&str, usize)])
     requires { role < 8 }
 {
-    assert_eq!(rt;
-        stores.entries(role).len(),
-        want.len(),
-        "the count of slots"
-    );
+    assert_eq!(rt; stores.entries(role).len(), want.len());
     for (entry, (letters, place)) in stores.entries(role).zip(want) {
         let key = key_at(rt, keys, Some(*place));
         assert!(rt;
@@ -83,10 +79,7 @@ fn shows(rt: &impl Abort, stores: &Stores, role: Role, keys: &[Key], want: &[(&s
             "what {letters} is bound to"
         );
     }
-    assert!(rt;
-        stores.get(role, &name(rt, "w")).is_none(),
-        "slot w is not bound"
-    );
+    assert!(rt; stores.get(role, &name(rt, "w")).is_none());
 }
 
 // x and y are bound, x once more, and then each gets back what it had. Keys are named by their places among four.
@@ -103,10 +96,9 @@ const THERE_AND_BACK: &[Row] = &[
     (Ask::Unbind("x", None), &[]),
 ];
 
-// `mps_stores::Stores::bind` and `unbind` in each of 8 roles: a name bound again keeps its place, and gets back what it
-// had.
+// `Stores::bind` and `unbind` in each of 8 roles: a name bound again keeps its place, and gets back what it had.
 #[test]
-fn a_name_unbound_gets_back_what_it_had(rt: HostRuntime) {
+fn goes_there_and_back_in_each_role(rt: HostRuntime) {
     let keys = some_keys(&rt, 4);
     let mut stores = Stores::new(rt.alloc()).expect(&rt, "memory");
     for place in 0..8u8 {
@@ -117,10 +109,9 @@ fn a_name_unbound_gets_back_what_it_had(rt: HostRuntime) {
     }
 }
 
-// `mps_stores::Stores::bind` and `unbind`: each of 8 roles binds x to a key of its own, and what role 5 takes back is
-// still bound for 4 and 6.
+// Each of 8 roles binds x to a key of its own, and what role 5 takes back is still bound for 4 and 6.
 #[test]
-fn each_role_has_its_own_bindings(rt: HostRuntime) {
+fn keeps_each_role_apart(rt: HostRuntime) {
     let keys = some_keys(&rt, 8);
     let mut stores = Stores::new(rt.alloc()).expect(&rt, "memory");
     for place in 0..8u8 {
@@ -155,17 +146,14 @@ fn binds(rt: &impl Abort, stores: &mut Stores, role: Role, letters: &str, key: K
     let was = stores
         .bind(role, &name(rt, letters), key)
         .expect(rt, "memory");
-    assert!(rt; was.is_none(), "{letters} was not bound");
+    assert!(rt; was.is_none());
 }
 
 // The slot is bound to the key.
 fn is_bound(rt: &impl Abort, stores: &Stores, role: Role, letters: &str, key: Option<Key>)
     requires { role < 8 }
 {
-    assert!(rt;
-        stores.get(role, &name(rt, letters)) == key,
-        "what {letters} is bound to"
-    );
+    assert!(rt; stores.get(role, &name(rt, letters)) == key);
 }
 
 // Takes the slot's binding back.
@@ -176,10 +164,9 @@ fn unbinds(rt: &impl Abort, stores: &mut Stores, role: Role, letters: &str)
     is_bound(rt, stores, role, letters, None);
 }
 
-// `mps_stores::Stores::bind` and `unbind`: 22 names of the last role are bound and taken back again, first to last and
-// last to first.
+// 22 names of the last role are bound and taken back again, first to last and last to first.
 #[test]
-fn many_names_are_bound_and_unbound_in_order(rt: HostRuntime) {
+fn has_room_for_many_slots(rt: HostRuntime) {
     let keys = some_keys(&rt, 22);
     let role = Role::new(7);
     let mut stores = Stores::new(rt.alloc()).expect(&rt, "memory");
@@ -191,5 +178,5 @@ fn many_names_are_bound_and_unbound_in_order(rt: HostRuntime) {
     for letters in LETTERS.iter().rev() {
         unbinds(&rt, &mut stores, role, letters);
     }
-    assert_eq!(rt; stores.entries(role).len(), 0, "no slot is left");
+    assert_eq!(rt; stores.entries(role).len(), 0);
 }

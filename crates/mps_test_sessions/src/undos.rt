@@ -46,10 +46,9 @@ const BY_NAME: &[Line] = &[
 // What is played where a gives b an int, and b one to c.
 const RELAYED: &[&[Line]] = &[WAITS_FOR_THE_RECEIPT, BY_NAME];
 
-// `mps_session::Session::undo` removes a role's own surviving step on which no other depends, or says why not and
-// changes nothing.
+// `Session::undo` removes a role's own surviving step on which no other depends, or says why not and changes nothing.
 #[test]
-fn an_undo_takes_a_step_on_which_none_depends(rt: HostRuntime) {
+fn undoes_in_a_relay(rt: HostRuntime) {
     for lines in RELAYED {
         play_anew(&rt, A_TO_B_TO_C, lines);
     }
@@ -124,10 +123,9 @@ const GIVEN_TWICE: &[&[Line]] = &[
     NEVER_AGAIN,
 ];
 
-// `mps_session::Session::undo` leaves queue and slot as before the step, and of the steps that depend on it names the
-// least.
+// `Session::undo` leaves queue and slot as before the step, and of the steps that depend on it names the least.
 #[test]
-fn an_undo_leaves_queue_and_slot_as_before(rt: HostRuntime) {
+fn undoes_of_two_messages(rt: HostRuntime) {
     for lines in GIVEN_TWICE {
         play_anew(&rt, TWICE, lines);
     }
@@ -153,10 +151,9 @@ const OTHER_BRANCH: &[Line] = &[
     Moves("1 -; 5 stop; 6 stop; "),
 ];
 
-// `mps_session::Session::undo` of a pick or a choice takes the role's type back too. A mark is needed by the role's
-// next step.
+// `Session::undo` of a pick or a choice takes the role's type back too. A mark is needed by the role's next step.
 #[test]
-fn an_undone_choice_can_be_made_anew(rt: HostRuntime) {
+fn undoes_choices_and_marks(rt: HostRuntime) {
     let mut session = opened(&rt, looping(&rt));
     play(&rt, &mut session, OTHER_BRANCH);
 }
@@ -182,10 +179,9 @@ fn undo_all(rt: &(impl Abort + AllocGlobal), session: &mut Session, last: u64) {
     }
 }
 
-// `mps_session::Session::undo`: a role's 1,000 sends are undone one by one, the newest first, and nothing is left but
-// their numbers.
+// A role's 1,000 sends can be undone one by one, the newest first, and nothing is left but their numbers.
 #[test]
-fn a_thousand_sends_are_undone_newest_first(rt: HostRuntime) {
+fn undoes_a_thousand_steps(rt: HostRuntime) {
     let mut session = opened(&rt, giving(&rt));
     ask_often(&rt, &mut session, A, Ask::Send(B, "1"), 1000);
     play(&rt, &mut session, MANY);
@@ -210,10 +206,9 @@ const AFTER_THEM: &[Line] = &[
     Count(2, 1002),
 ];
 
-// `mps_session::Session::undo` of each of 1,000 sends at once: the session then goes on as a new one, with the number
-// 1,001.
+// A send and its undo, 1,000 times: the session then goes on as a new one, with the number 1,001.
 #[test]
-fn a_number_undone_a_thousand_times_never_comes_again(rt: HostRuntime) {
+fn undoes_a_thousand_sends_at_once(rt: HostRuntime) {
     let mut session = opened(&rt, giving(&rt));
     send_and_undo(&rt, &mut session, 1000);
     play(&rt, &mut session, AFTER_THEM);
@@ -241,8 +236,8 @@ const BOUND_AGAIN: &[Line] = &[
     Keeps(B, "y", "1"),
 ];
 
-// `mps_session::Session::undo` of a receipt gives its slot what it had before, and leaves the other slot.
+// `Session::undo` of a receipt gives its slot what it had before, and leaves the other slot.
 #[test]
-fn an_undone_receipt_gives_its_slot_what_it_had(rt: HostRuntime) {
+fn unbinds_slots(rt: HostRuntime) {
     play_giving(&rt, BOUND_AGAIN);
 }

@@ -14,8 +14,6 @@ mod gates;
 #[cfg(test)]
 mod journals;
 #[cfg(test)]
-mod other_types;
-#[cfg(test)]
 mod pieces;
 #[cfg(test)]
 mod protocols;

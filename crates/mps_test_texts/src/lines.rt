@@ -98,26 +98,25 @@ fn lines_of(rt: &(impl Abort + AllocGlobal), pieces: &[&[u8]]) -> Vec<Line> {
     told
 }
 
+// These pieces are told so.
+fn pieces_are_told(rt: &(impl Abort + AllocGlobal), pieces: &[&[u8]], want: &[Told]) {
+    assert!(rt; all_told(&lines_of(rt, pieces), want));
+}
+
 // These bytes are told so, in pieces of so many.
 fn are_told(rt: &(impl Abort + AllocGlobal), bytes: &[u8], size: usize, want: &[Told]) {
     let mut pieces = Vec::new(rt.alloc());
     for piece in bytes.chunks(size.max(1)) {
         pieces.push(piece).expect(rt, "memory");
     }
-    assert!(rt;
-        all_told(&lines_of(rt, &pieces), want),
-        "in pieces of {size} bytes"
-    );
+    pieces_are_told(rt, &pieces, want);
 }
 
 // They are told so, wherever they are cut in two.
 fn are_told_in_two(rt: &(impl Abort + AllocGlobal), bytes: &[u8], want: &[Told]) {
     for cut in 0..bytes.len() {
         let (front, back) = bytes.split_at(cut);
-        assert!(rt;
-            all_told(&lines_of(rt, &[front, back]), want),
-            "cut at {cut}"
-        );
+        pieces_are_told(rt, &[front, back], want);
     }
 }
 
@@ -128,15 +127,15 @@ fn letters(rt: &(impl Abort + AllocGlobal), count: usize, end: &[u8]) -> Vec<u8>
     bytes
 }
 
-// `mps_lines::Lines` that is fed byte by byte reports the five lines that the whole text has.
+// `Lines` that is fed byte by byte reports the five lines that the whole text has.
 #[test]
-fn single_bytes_give_the_same_lines(rt: HostRuntime) {
+fn pieces_of_one_byte(rt: HostRuntime) {
     are_told(&rt, TEXT, 1, LINES_OF_TEXT);
 }
 
-// `mps_lines::Lines` reports the same five lines wherever the text is cut in two.
+// `Lines` reports the same five lines wherever the text is cut in two.
 #[test]
-fn any_two_pieces_give_the_same_lines(rt: HostRuntime) {
+fn every_two_pieces(rt: HostRuntime) {
     are_told_in_two(&rt, TEXT, LINES_OF_TEXT);
 }
 
@@ -153,9 +152,9 @@ const LETTERS: &[(usize, &[u8], Told)] = &[
     (512, b"\x80\n", TooLong),
 ];
 
-// `mps_lines::Lines` tells a line of up to 512 bytes (MAX_LINE); with more it is too long, wherever it is cut in two.
+// Up to 512 bytes a line is told, with more it is too long, wherever it is cut in two.
 #[test]
-fn a_line_of_more_than_512_bytes_is_too_long(rt: HostRuntime) {
+fn lines_and_rests_of_512_bytes_and_more(rt: HostRuntime) {
     for (count, end, want) in LETTERS {
         are_told_in_two(&rt, &letters(&rt, *count, end), &[*want]);
     }
@@ -167,10 +166,9 @@ const LONG_AND_SHORT: &[Told] = &[TooLong, Text(b"pick a")];
 // Sizes of pieces: a byte, the longest line and one byte more, a block as scripts are read by, and more than all bytes.
 const SIZES: &[usize] = &[1, 512, 513, 65_536, 100_000, 200_000];
 
-// `mps_lines::Lines` tells a line far over the limit, of 100,000 bytes, as too long, and the line after it whole, in
-// pieces of any size.
+// A line far over the limit is told as one that is too long, and the line after it whole, in pieces of any size.
 #[test]
-fn the_line_after_a_very_long_one_is_whole(rt: HostRuntime) {
+fn a_line_of_100_000_bytes(rt: HostRuntime) {
     let bytes = letters(&rt, 100_000, b"\npick a\n");
     for size in SIZES {
         are_told(&rt, &bytes, *size, LONG_AND_SHORT);
@@ -180,20 +178,18 @@ fn the_line_after_a_very_long_one_is_whole(rt: HostRuntime) {
 // What lines of one byte are told as: of 127, 128 and 255.
 const FROM_128_ON: &[Told] = &[Text(b"\x7F"), NotAscii, NotAscii];
 
-// `mps_lines::Lines` tells a line with a byte of 128 or more as no text. All bytes come in one piece, which is shorter
-// than 100.
+// A line with a byte of 128 or more is no text. All bytes come in one piece, which is shorter than 100.
 #[test]
-fn a_line_with_a_byte_from_128_on_is_no_text(rt: HostRuntime) {
+fn bytes_from_128_on(rt: HostRuntime) {
     are_told(&rt, b"\x7F\n\x80\n\xFF", 100, FROM_128_ON);
 }
 
 // What three LFs are told as.
 const THREE_EMPTY: &[Told] = &[Text(b""); 3];
 
-// `mps_lines::Lines` tells no line of no bytes. Each LF ends one, so three are three lines without a byte, here in
-// pieces of two and one.
+// No bytes are no line. Each LF ends one, so three are three lines without a byte, here in pieces of two and one.
 #[test]
-fn each_lf_ends_a_line(rt: HostRuntime) {
+fn empty_lines(rt: HostRuntime) {
     are_told(&rt, b"", 1, &[]);
     are_told(&rt, b"\n\n\n", 2, THREE_EMPTY);
 }
@@ -209,10 +205,7 @@ fn is_waiting(line: Option<&Line>, want: Option<Told>) -> bool {
 
 // The line that waits first is reported so, or none waits.
 fn is_next(rt: &impl Abort, lines: &mut Lines, want: Option<Told>) {
-    assert!(rt;
-        is_waiting(next(rt, lines).as_ref(), want),
-        "the line that waits first"
-    );
+    assert!(rt; is_waiting(next(rt, lines).as_ref(), want));
 }
 
 // Whether none waits.
@@ -227,15 +220,14 @@ fn none_waits(rt: &impl Abort, lines: &mut Lines) -> bool
 
 // None waits, and the rest is reported so, if there is one.
 fn is_rest(rt: &impl Abort, lines: &mut Lines, want: Option<Told>) {
-    assert!(rt; none_waits(rt, lines), "no line waits");
+    assert!(rt; none_waits(rt, lines));
     let rest = lines.finish().expect(rt, "memory");
-    assert!(rt; is_waiting(rest.as_ref(), want), "the rest");
+    assert!(rt; is_waiting(rest.as_ref(), want));
 }
 
-// `mps_lines::Lines::finish` gives the rest once, if it has a byte. What is fed then begins a new line; `news` waits
-// for its LF.
+// `finish` gives the rest once, if it has a byte. What is fed then begins a new line; `news` waits for its LF.
 #[test]
-fn after_the_rest_a_new_line_begins(rt: HostRuntime) {
+fn finishes_and_begins_again(rt: HostRuntime) {
     let mut lines = Lines::new(rt.alloc());
     is_rest(&rt, &mut lines, None);
     feed_piece(&rt, &mut lines, b"mark m");
@@ -260,16 +252,15 @@ const PAIR: &[Told] = &[Text(b"pick a"), Text(b"show")];
 
 // So many lines are these two by turns.
 fn are_pairs(rt: &impl Abort, told: &[Line], count: usize) {
-    assert_eq!(rt; told.len(), count, "the count of lines");
+    assert_eq!(rt; told.len(), count);
     for pair in told.chunks(2) {
-        assert!(rt; all_told(pair, PAIR), "two lines by turns");
+        assert!(rt; all_told(pair, PAIR));
     }
 }
 
-// `mps_lines::Lines` gives 2,000 lines that wait together in order: a thousand times two, the second of them in two
-// pieces.
+// 2,000 lines that wait together come out in order: a thousand times two, the second of them in two pieces.
 #[test]
-fn lines_that_wait_come_out_in_order(rt: HostRuntime) {
+fn many_lines_wait(rt: HostRuntime) {
     let mut lines = Lines::new(rt.alloc());
     feed_often(&rt, &mut lines, 1_000);
     let mut told = Vec::new(rt.alloc());
@@ -281,32 +272,24 @@ fn lines_that_wait_come_out_in_order(rt: HostRuntime) {
 fn kept(rt: &(impl Abort + AllocGlobal), front: &[u8], back: &[u8]) -> Vec<u8> {
     let mut line = Vec::new(rt.alloc());
     keep(&mut line, front).expect(rt, "memory");
-    assert!(rt; line.len() <= MOST_KEPT, "no more than MOST_KEPT bytes");
+    assert!(rt; line.len() <= MOST_KEPT);
     keep(&mut line, back).expect(rt, "memory");
     line
 }
 
-// `mps_lines::line_end` finds the first LF, at 6, or none. `keep` keeps a short line whole, and of a long one MOST_KEPT
-// bytes.
+// `line_end` finds the first LF, at 6, or none. `keep` keeps a short line whole, and of a long one MOST_KEPT bytes.
 #[test]
-fn keep_cuts_a_long_line_and_line_end_finds_its_lf(rt: HostRuntime) {
-    assert!(rt; line_end(b"pick a\nshow\n") == Some(6), "an LF at 6");
-    assert!(rt; line_end(b"pick a").is_none(), "no LF");
-    assert!(rt;
-        kept(&rt, b"pick", b" a").as_slice() == b"pick a".as_slice(),
-        "a short line is kept whole"
-    );
+fn fronts_of_lines(rt: HostRuntime) {
+    assert!(rt; line_end(b"pick a\nshow\n") == Some(6));
+    assert!(rt; line_end(b"pick a").is_none());
+    assert!(rt; kept(&rt, b"pick", b" a").as_slice() == b"pick a".as_slice());
     let long = letters(&rt, 100_000, b"");
-    assert!(rt;
-        kept(&rt, b"", &long).len() == MOST_KEPT,
-        "of a long line MOST_KEPT bytes are kept"
-    );
+    assert!(rt; kept(&rt, b"", &long).len() == MOST_KEPT);
 }
 
-// `mps_lines::Lines` takes all bytes in one piece of over a megabyte: one line that is too long, and one that is told
-// whole.
+// All bytes come in one piece of over a megabyte: one line that is too long, and one that is told whole.
 #[test]
-fn a_piece_of_a_megabyte_is_told_whole(rt: HostRuntime) {
+fn a_piece_of_a_megabyte(rt: HostRuntime) {
     let bytes = letters(&rt, 1_100_000, b"\npick a\n");
     are_told(&rt, &bytes, 2_000_000, LONG_AND_SHORT);
 }

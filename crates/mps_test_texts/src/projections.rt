@@ -92,10 +92,7 @@ fn projected(
     ensures { IfOk result
         (λ t. AllPeers (λ peer. peer < length protocol.now.roles.items) (plain t)) }
 {
-    assert!(rt;
-        check(protocol).is_ok() && usize::from(role) < protocol.roles.len(),
-        "a role of a protocol without faults"
-    );
+    assert!(rt; check(protocol).is_ok() && usize::from(role) < protocol.roles.len());
     project(rt.alloc(), protocol, Role::new(role))
 }
 
@@ -106,10 +103,7 @@ fn fails_at(rt: &(impl Abort + AllocGlobal), body: Global, role: u8, choice: usi
         role: Role::new(role),
         choice,
     };
-    assert!(rt;
-        projected(rt, &protocol, role).err() == Some(fault),
-        "no type for the role at place {role}, for choice {choice}"
-    );
+    assert!(rt; projected(rt, &protocol, role).err() == Some(fault));
 }
 
 // Whether the type is written so.
@@ -128,7 +122,7 @@ fn does(rt: &(impl Abort + AllocGlobal), letters: &[&str], body: Global, role: u
     let t = projected(rt, &protocol, role).expect(rt, "a type");
     let copy = t.copy(rt.alloc()).expect(rt, "memory");
     let are_so = is_written(rt, &roles, &t, text) && is_written(rt, &roles, &copy, text);
-    assert!(rt; are_so, "the type of the role at place {role}: {text}");
+    assert!(rt; are_so, "{text}");
 }
 
 // a gives b ints without end, and c does nothing.
@@ -194,10 +188,9 @@ const IDLE: [Part<'static>; 4] = [
 // What a, b and c may say, and the choice that can't be merged for c. Choices are counted in preorder, from 0.
 const CHOICES: &[(&[Part<'static>], usize)] = &[(&ONE, 0), (&BEHIND, 0), (&INNER, 1), (&OWN, 1)];
 
-// `mps_local::project` names the first choice of others that differs for c, the role at place 2. A law's call does
-// nothing.
+// `project` names the first choice of others that differs for c, the role at place 2. A law's call does nothing.
 #[test]
-fn the_choice_whose_branches_differ_is_named(rt: HostRuntime) {
+fn names_the_choice(rt: HostRuntime) {
     for row in CHOICES {
         fails_at(&rt, chain(&rt, row.0), 2, row.1);
     }
@@ -225,9 +218,9 @@ const TYPES: &[(&[Part<'static>], u8, &str)] = &[
     (&IDLE, 2, "end"),
 ];
 
-// `mps_local::project` gives the role's local type. It is compared as text (`write_local`), and so is a copy.
+// `project` gives the role's local type. It is compared as text (`write_local`), and so is a copy.
 #[test]
-fn each_role_has_its_local_type(rt: HostRuntime) {
+fn projects_each_role(rt: HostRuntime) {
     for row in TYPES {
         does(&rt, &THREE, chain(&rt, row.0), row.1, row.2);
     }
@@ -239,28 +232,24 @@ fn types_of(
     parts: &[Part<'_>],
 ) -> Result<Vec<Local>, ProjectFault> {
     let protocol = protocol(rt, &THREE, chain(rt, parts));
-    assert!(rt; check(&protocol).is_ok(), "a protocol without faults");
+    assert!(rt; check(&protocol).is_ok());
     project_all(rt.alloc(), &protocol)
 }
 
-// `mps_local::project_all` gives the types of a, b and c in order, or names the first role that has none, and the
-// choice.
+// `project_all` gives the types of a, b and c in order, or names the first role that has none, and the choice.
 #[test]
-fn all_roles_are_projected_in_order(rt: HostRuntime) {
+fn projects_all_roles(rt: HostRuntime) {
     let types = types_of(&rt, &RELAY).expect(&rt, "types");
     let shown = match types.as_slice() {
         [Local::Send { .. }, Local::Recv { .. }, Local::Recv { .. }] => "sends, and two receive",
         _ => "something else",
     };
-    assert_eq!(rt; shown, "sends, and two receive", "the types of a, b and c");
+    assert_eq!(rt; shown, "sends, and two receive");
     let first = ProjectFault::Unmergeable {
         role: Role::new(2),
         choice: 0,
     };
-    assert!(rt;
-        types_of(&rt, &ONE).err() == Some(first),
-        "no type for c, for choice 0"
-    );
+    assert!(rt; types_of(&rt, &ONE).err() == Some(first));
 }
 
 // A choice of `a` between these two, in a loop in a loop.
@@ -350,10 +339,9 @@ fn is_same(rt: &(impl Abort + AllocGlobal), way: &Way) {
     does(rt, &THREE, chosen(rt, way.0, way.0), 2, way.1);
 }
 
-// `mps_local::project` merges branches for c, the role at place 2, where they are equal for it, and names choice 0
-// where not.
+// `project` merges branches for c, the role at place 2, where they are equal for it, and names choice 0 where not.
 #[test]
-fn branches_that_are_equal_for_a_role_are_merged(rt: HostRuntime) {
+fn merges_what_is_the_same(rt: HostRuntime) {
     for pair in DIFFERENT {
         differ(&rt, &pair.0, &pair.1);
         differ(&rt, &pair.1, &pair.0);
@@ -429,10 +417,9 @@ const WIDE: &[(u8, &str)] = &[
     (7, "recv g text . end"),
 ];
 
-// `mps_local::project` merges 16 branches, the most a choice may have, for each of six roles that do the same in all of
-// them.
+// `project` merges 16 branches, the most a choice may have, for each of six roles that do the same in all of them.
 #[test]
-fn sixteen_equal_branches_are_merged(rt: HostRuntime) {
+fn projects_a_wide_choice(rt: HostRuntime) {
     for row in WIDE {
         does(&rt, &EIGHT, wide_choice(&rt), row.0, row.1);
     }
@@ -465,15 +452,14 @@ fn turn(rt: &(impl Abort + AllocGlobal), next: Local) -> Local {
     }
 }
 
-// `mps_local::Local` of 300,000 nodes in one another, 3 for each of MANY turns, is dropped at the end of the test,
-// which must not run out of stack.
+// A type of 300,000 nodes in one another is dropped at the end of the test, which must not run out of stack.
 #[test]
-fn a_deep_local_type_is_dropped(rt: HostRuntime) {
+fn drops_deep_trees(rt: HostRuntime) {
     let mut tree = Local::End;
     for _ in 0..MANY {
         tree = turn(&rt, tree);
     }
-    assert!(rt; matches!(&tree, Local::Select { .. }), "a tree of choices");
+    assert!(rt; matches!(&tree, Local::Select { .. }));
 }
 
 // So many outputs to the second role, one after the other.
@@ -524,13 +510,12 @@ fn is_so_long(rt: &(impl Abort + AllocGlobal), t: Local, length: usize)
     requires { AllPeers (λ peer. peer < 2) (plain t) }
 {
     let text = write_local(rt.alloc(), &two_roles(rt), &t).expect(rt, "memory");
-    assert_eq!(rt; text.len(), length, "the length of the text");
+    assert_eq!(rt; text.len(), length);
 }
 
-// `mps_local::write_local` writes types of 100,000 nodes or branches. Of so long a text the length is looked at, token
-// by token.
+// `write_local` writes types of 100,000 nodes or branches. Of so long a text the length is looked at, token by token.
 #[test]
-fn deep_and_wide_types_are_written(rt: HostRuntime) {
+fn writes_deep_and_wide_types(rt: HostRuntime) {
     is_so_long(
         &rt,
         sends(&rt, MANY),
@@ -629,21 +614,21 @@ fn make_choices_alike(one: &Local, other: &Local) -> bool {
     }
 }
 
-// `mps_local::Local::copy` and `Branches::copy` give equal types, of 100,000 nodes in one another or as many branches.
+// `Local::copy` and `Branches::copy` give equal types, of 100,000 nodes in one another or as many branches.
 #[test]
-fn deep_and_wide_types_are_copied(rt: HostRuntime) {
+fn copies_deep_and_wide_types(rt: HostRuntime) {
     let deep = outputs(&rt, MANY);
     let copied = deep.copy(rt.alloc()).expect(&rt, "memory");
-    assert!(rt; send_alike(&deep, &copied), "the outputs");
+    assert!(rt; send_alike(&deep, &copied));
     let branches = output_branches(&rt, MANY);
     let copied = branches.copy(rt.alloc()).expect(&rt, "memory");
-    assert!(rt; choose_alike(&branches, &copied), "the branches");
+    assert!(rt; choose_alike(&branches, &copied));
     let wide = Local::Select {
         peer: Role::new(1),
         branches,
     };
     let copied = wide.copy(rt.alloc()).expect(&rt, "memory");
-    assert!(rt; make_choices_alike(&wide, &copied), "the choice");
+    assert!(rt; make_choices_alike(&wide, &copied));
 }
 
 // So many outputs to the second role, and then an input from the third.
@@ -661,16 +646,12 @@ const OTHERS: &[(usize, usize, bool)] = &[(2, 0, true), (2, 1, false), (1, 0, fa
 
 // The type that names the second role names others alone where it is another one.
 fn names_another(rt: &impl Abort, t: Local, row: &(usize, usize, bool)) {
-    assert!(rt;
-        t.names_others(row.0, row.1) == row.2,
-        "roles, role and whether it is another: {row:?}"
-    );
+    assert!(rt; t.names_others(row.0, row.1) == row.2);
 }
 
-// `mps_local::Local::names_others`: the types name the role at place 1, `end` names none, and the last type place 2
-// besides.
+// `Local::names_others`: the types name the role at place 1, `end` names none, and the last type place 2 besides.
 #[test]
-fn a_type_that_names_its_own_role_is_told(rt: HostRuntime) {
+fn names_its_peers(rt: HostRuntime) {
     for row in OTHERS {
         // so many nodes run the stack out where a function calls itself for each
         names_another(&rt, sends(&rt, 1_000_000), row);

@@ -41,20 +41,16 @@ const NO_NAMES: &[&str] = &[
     "false",
 ];
 
-// `mps_base::Name::read` gives a name exactly where the bytes are one, and the name has these bytes.
+// `Name::read` gives a name exactly where the bytes are one, and the name has these bytes.
 #[test]
-fn a_name_is_read_where_the_bytes_are_one(rt: HostRuntime) {
+fn names(rt: HostRuntime) {
     for good in NAMES {
         let name = name(&rt, good);
-        assert_eq!(rt;
-            name.as_bytes(),
-            good.as_bytes(),
-            "the bytes of the name `{good}`"
-        );
-        assert!(rt; name.is(&name), "`{good}` is itself");
+        assert_eq!(rt; name.as_bytes(), good.as_bytes());
+        assert!(rt; name.is(&name));
     }
     for bad in NO_NAMES {
-        assert!(rt; Name::read(bad.as_bytes()).is_none(), "`{bad}` is no name");
+        assert!(rt; Name::read(bad.as_bytes()).is_none(), "{bad}");
     }
 }
 
@@ -76,23 +72,16 @@ const NO_VARIABLES: &[&str] = &[
     "ABCDEFGHIJKLMNOPQRSTUVWXYZ_012345",
 ];
 
-// `mps_base::VarName::read` gives a variable exactly where the bytes are one, and the variable has these bytes.
+// `VarName::read` gives a variable exactly where the bytes are one, and the variable has these bytes.
 #[test]
-fn a_variable_is_read_where_the_bytes_are_one(rt: HostRuntime) {
+fn variables(rt: HostRuntime) {
     for good in VARIABLES {
         let variable = VarName::read(good.as_bytes()).expect(&rt, "a variable");
-        assert_eq!(rt;
-            variable.as_bytes(),
-            good.as_bytes(),
-            "the bytes of the variable `{good}`"
-        );
-        assert!(rt; variable.is(&variable), "`{good}` is itself");
+        assert_eq!(rt; variable.as_bytes(), good.as_bytes());
+        assert!(rt; variable.is(&variable));
     }
     for bad in NO_VARIABLES {
-        assert!(rt;
-            VarName::read(bad.as_bytes()).is_none(),
-            "`{bad}` is no variable"
-        );
+        assert!(rt; VarName::read(bad.as_bytes()).is_none(), "{bad}");
     }
 }
 
@@ -151,17 +140,14 @@ fn is_no_value(alloc: Global, text: &[u8]) -> bool {
     matches!(Value::read(alloc, text), Err(ValueFault::Bad))
 }
 
-// `mps_base::Value::read` gives a value exactly where the bytes spell one. `write` gives the same bytes, of a copy too.
+// `Value::read` gives a value exactly where the bytes spell one. `write` gives the same bytes, of a copy too.
 #[test]
-fn a_value_is_read_and_written_as_it_is_spelled(rt: HostRuntime) {
+fn values(rt: HostRuntime) {
     for text in VALUES {
-        assert!(rt; is_spelled(&rt, text.as_bytes()), "the value `{text}`");
+        assert!(rt; is_spelled(&rt, text.as_bytes()), "{text}");
     }
     for text in NO_VALUES {
-        assert!(rt;
-            is_no_value(rt.alloc(), text.as_bytes()),
-            "`{text}` is no value"
-        );
+        assert!(rt; is_no_value(rt.alloc(), text.as_bytes()), "{text}");
     }
 }
 
@@ -178,27 +164,21 @@ fn text_of(rt: &(impl Abort + AllocGlobal), count: usize) -> Option<Text> {
     Text::new(vec![in rt.alloc(); b'x'; count].expect(rt, "memory"))
 }
 
-// `mps_base::Value::read` and `Text::new` make no text of 257 bytes; of 256, the most, there is one, and a copy.
+// A text has at most 256 bytes: of 257 `Value::read` and `Text::new` make none, of 256 there is one, and a copy.
 #[test]
-fn a_text_has_at_most_256_bytes(rt: HostRuntime) {
-    assert!(rt;
-        is_no_value(rt.alloc(), &quoted(&rt, 257)),
-        "no value of 257 bytes"
-    );
+fn text_lengths(rt: HostRuntime) {
+    assert!(rt; is_no_value(rt.alloc(), &quoted(&rt, 257)));
     let text = text_of(&rt, 256).expect(&rt, "a text");
     let copied = text.copy(rt.alloc()).expect(&rt, "memory");
-    assert_eq!(rt; copied.as_bytes().len(), 256, "the copy of 256 bytes");
-    assert!(rt; text_of(&rt, 257).is_none(), "no text of 257 bytes");
+    assert_eq!(rt; copied.as_bytes().len(), 256);
+    assert!(rt; text_of(&rt, 257).is_none());
 }
 
-// `mps_base::Value::read`: each text of 0 to 256 letters, in quotes, is read, and written and copied as it was read.
+// Each text of 0 to 256 letters, in quotes, is read, and written and copied as it was read.
 #[test]
-fn a_text_of_each_length_is_read_and_written(rt: HostRuntime) {
+fn texts_of_each_length(rt: HostRuntime) {
     for count in 0..257 {
-        assert!(rt;
-            is_spelled(&rt, &quoted(&rt, count)),
-            "a text of {count} letters"
-        );
+        assert!(rt; is_spelled(&rt, &quoted(&rt, count)), "{count}");
     }
 }
 
@@ -214,16 +194,13 @@ fn is_of(value: &Value, sort: Sort) -> bool {
     value.sort() == sort && value.fits(sort)
 }
 
-// `mps_base::Value::sort` and `Value::fits`: a value is of its own sort, and an int does not fit bool.
+// A value is of its own sort: `Value::sort` and `Value::fits` say so, and an int does not fit bool.
 #[test]
-fn a_value_fits_its_own_sort(rt: HostRuntime) {
+fn sorts(rt: HostRuntime) {
     for (text, sort) in SORTS {
-        assert!(rt;
-            is_of(&value(&rt, text.as_bytes()), *sort),
-            "the sort of `{text}`"
-        );
+        assert!(rt; is_of(&value(&rt, text.as_bytes()), *sort), "{text}");
     }
-    assert!(rt; !Value::Int(1).fits(Sort::Bool), "an int is no bool");
+    assert!(rt; !Value::Int(1).fits(Sort::Bool));
 }
 
 // The least number, one more, and the greatest, 2^64 - 1.
@@ -239,18 +216,14 @@ fn is_number_text(rt: &(impl Abort + AllocGlobal), text: &[u8], number: u64) -> 
     read_number(text) == Some(number) && out.as_slice().get(1..) == Some(text)
 }
 
-// `mps_base::read_number` reads just the numbers below 2^64, in one spelling each. `write_number` appends it, here
-// after a `#`.
+// `read_number` reads just the numbers below 2^64, in one spelling each. `write_number` appends it, here after a `#`.
 #[test]
-fn a_number_below_2_to_the_64_is_read_and_written(rt: HostRuntime) {
+fn numbers(rt: HostRuntime) {
     for (text, number) in NUMBERS {
-        assert!(rt;
-            is_number_text(&rt, text.as_bytes(), *number),
-            "the number `{text}`"
-        );
+        assert!(rt; is_number_text(&rt, text.as_bytes(), *number), "{text}");
     }
     for bad in NO_NUMBERS {
-        assert_eq!(rt; read_number(bad.as_bytes()), None, "`{bad}` is no number");
+        assert_eq!(rt; read_number(bad.as_bytes()), None, "{bad}");
     }
 }
 
@@ -300,13 +273,13 @@ fn is_double(rt: &(impl Abort + AllocGlobal)) -> bool {
     )
 }
 
-// `mps_base::Roles::of` takes 2 to 8 names, all of them different, and a copy has as many.
+// `Roles::of` takes 2 to 8 names, all of them different, and a copy has as many.
 #[test]
-fn two_to_eight_different_names_are_roles(rt: HostRuntime) {
+fn role_lists(rt: HostRuntime) {
     for (names, wanted) in COUNTS {
-        assert_eq!(rt; counted(&rt, *names), *wanted, "{names} names");
+        assert_eq!(rt; counted(&rt, *names), *wanted);
     }
-    assert!(rt; is_double(&rt), "a name twice");
+    assert!(rt; is_double(&rt));
 }
 
 // The roles a, b and c.
@@ -317,23 +290,15 @@ fn three(rt: &(impl Abort + AllocGlobal)) -> Roles {
 // Not the name of any of a, b and c: nothing, another name, a capital, more letters, a reserved word.
 const NO_ROLES: &[&[u8]] = &[b"", b"d", b"C", b"cc", b"end"];
 
-// `mps_base::Roles::find` and `find_spelled` give the role of that name, here c at place 2, and none where no role has
-// it.
+// `Roles::find` and `find_spelled` give the role of that name, here c at place 2, and none where no role has it.
 #[test]
-fn a_role_is_found_by_its_name(rt: HostRuntime) {
+fn finds_roles(rt: HostRuntime) {
     let roles = three(&rt);
     let (c, d) = (name(&rt, "c"), name(&rt, "d"));
-    assert!(rt;
-        is_found(&roles, &c, 2) && roles.find(&d).is_none(),
-        "c is found at place 2, and d is not"
-    );
-    assert_eq!(rt;
-        roles.find_spelled(b"c"),
-        roles.find(&c),
-        "c is found as it is spelled"
-    );
+    assert!(rt; is_found(&roles, &c, 2) && roles.find(&d).is_none());
+    assert_eq!(rt; roles.find_spelled(b"c"), roles.find(&c));
     for bytes in NO_ROLES {
-        assert!(rt; roles.find_spelled(bytes).is_none(), "{bytes:?} is no role");
+        assert!(rt; roles.find_spelled(bytes).is_none());
     }
 }
 
@@ -351,13 +316,12 @@ fn is_copied(rt: &(impl Abort + AllocGlobal), step: &Step) -> bool {
 // A step of this act and its copy are shown alike.
 fn copies(rt: &(impl Abort + AllocGlobal), act: Act) {
     let (id, role) = (StepId::new(4), Role::new(2));
-    assert!(rt; is_copied(rt, &Step { id, role, act }), "the copied step");
+    assert!(rt; is_copied(rt, &Step { id, role, act }));
 }
 
-// `mps_base::Step::copy` gives an equal step, whatever its act: an output, an input, a mark, a commit. Its numbers
-// stand for any.
+// `Step::copy` gives an equal step, whatever its act: an output, an input, a mark, a commit. Its numbers stand for any.
 #[test]
-fn a_copied_step_is_equal(rt: HostRuntime) {
+fn copied_steps(rt: HostRuntime) {
     let label = name(&rt, "yes");
     let message = Message::Value(value(&rt, b"\"good day\""));
     let to = Role::new(1);
@@ -390,18 +354,15 @@ fn copy_of(rt: &(impl Abort + AllocGlobal), message: &Message) -> Message {
     message.copy(rt.alloc()).expect(rt, "memory")
 }
 
-// `mps_base::Message::copy` gives an equal message: two ints, which stand for any, and a label.
+// `Message::copy` gives an equal message: two ints, which stand for any, and a label.
 #[test]
-fn a_copied_message_is_equal(rt: HostRuntime) {
+fn copied_messages(rt: HostRuntime) {
     for number in [5, 7] {
         let copied = copy_of(&rt, &Message::Value(Value::Int(number)));
-        assert!(rt; is_number(&copied, number), "the copy of {number}");
+        assert!(rt; is_number(&copied, number), "{number}");
     }
     let label = name(&rt, "yes");
-    assert!(rt;
-        is_label(&copy_of(&rt, &Message::Label(label)), &label),
-        "the copied label"
-    );
+    assert!(rt; is_label(&copy_of(&rt, &Message::Label(label)), &label));
 }
 
 // Whether the name of this letter is a role's at the place.
@@ -411,16 +372,13 @@ fn is_at(rt: &impl Abort, roles: &Roles, text: &str, place: usize) -> bool {
     is_found(roles, &name, place) && again.is(&name) && again.as_bytes() == text.as_bytes()
 }
 
-// `mps_base::Roles::copy` has a, b and c at the places 0, 1 and 2.
+// `Roles::copy` has a, b and c at the places 0, 1 and 2.
 #[test]
-fn copied_roles_keep_their_places(rt: HostRuntime) {
+fn copied_roles(rt: HostRuntime) {
     let copied = three(&rt).copy(rt.alloc()).expect(&rt, "memory");
-    assert_eq!(rt; copied.count(), 3, "three roles");
+    assert_eq!(rt; copied.count(), 3);
     for (letter, place) in LETTERS.iter().take(3).zip(0..) {
-        assert!(rt;
-            is_at(&rt, &copied, letter, place),
-            "the place of `{letter}`"
-        );
+        assert!(rt; is_at(&rt, &copied, letter, place), "{letter}");
     }
 }
 
@@ -429,17 +387,13 @@ fn put(rt: &impl Abort, text: &mut Vec<u8>, token: &[u8]) {
     push_token(text, token).expect(rt, "memory");
 }
 
-// `mps_base::push_token` puts one space between two tokens, and none before the first. A law's call does nothing.
+// `push_token` puts one space between two tokens, and none before the first. A law's call does nothing.
 #[test]
-fn one_space_stands_between_two_tokens(rt: HostRuntime) {
+fn spaces_tokens(rt: HostRuntime) {
     let mut text = Vec::new(rt.alloc());
     put(&rt, &mut text, b"a");
     put(&rt, &mut text, b"->");
     put(&rt, &mut text, b"b");
-    assert_eq!(rt;
-        text.as_slice(),
-        b"a -> b".as_slice(),
-        "one space between two tokens"
-    );
+    assert_eq!(rt; text.as_slice(), b"a -> b".as_slice());
     spacing::written_spaced();
 }

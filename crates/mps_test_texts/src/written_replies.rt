@@ -9,10 +9,7 @@ use std::process::Abort;
 fn is_written(rt: &(impl Abort + AllocGlobal), reply: &Reply, line: &str) {
     let mut out = Vec::from_slice(rt.alloc(), b"#").expect(rt, "memory");
     reply.write(&mut out).expect(rt, "memory");
-    assert!(rt;
-        out.as_slice() == line.as_bytes(),
-        "the reply written as {line}"
-    );
+    assert!(rt; out.as_slice() == line.as_bytes(), "{line}");
 }
 
 // The same of the answer alone.
@@ -31,10 +28,9 @@ fn is_taken(rt: &(impl Abort + AllocGlobal), number: u64, value: Value, line: &s
     is_done(rt, number, Some(Message::Value(value)), line);
 }
 
-// `mps_line::Reply::write` appends a new step's number and what the step took: nothing, a truth value, an int, a label,
-// a text.
+// `Reply::write` appends a new step's number and what the step took: nothing, a truth value, an int, a label, a text.
 #[test]
-fn a_step_done_is_written_with_what_it_took(rt: HostRuntime) {
+fn done(rt: HostRuntime) {
     is_done(&rt, 1, None, "#done 1");
     is_done(&rt, 0, None, "#done 0");
     is_taken(
@@ -67,10 +63,9 @@ const UNDONE: &[(&[u64], &str)] = &[
     (&[0, u64::MAX], "#undone 0 18446744073709551615"),
 ];
 
-// `mps_line::Reply::write` appends the numbers of the steps taken back, in their order. The last list is kept without a
-// vector.
+// `Reply::write` appends the numbers of the steps taken back, in their order. The last list is kept without a vector.
 #[test]
-fn steps_undone_are_written_in_order(rt: HostRuntime) {
+fn undone(rt: HostRuntime) {
     for (numbers, line) in UNDONE {
         is_answer(&rt, Answer::Undone(listed(&rt, numbers)), line);
     }
@@ -99,17 +94,17 @@ fn is_news(rt: &(impl Abort + AllocGlobal), length: u64, numbers: &[u64], line: 
     is_answer(rt, Answer::News { length, ids }, line);
 }
 
-// `mps_line::Reply::write` appends the length of the journal, and the numbers in their order.
+// `Reply::write` appends the length of the journal, and the numbers in their order.
 #[test]
-fn news_are_written_with_the_length_of_the_journal(rt: HostRuntime) {
+fn news(rt: HostRuntime) {
     for (length, numbers, line) in NEWS {
         is_news(&rt, *length, numbers, line);
     }
 }
 
-// `mps_line::Reply::write` appends a shown session as it is.
+// `Reply::write` appends a shown session as it is.
 #[test]
-fn a_shown_session_is_written_as_it_is(rt: HostRuntime) {
+fn shown_sessions(rt: HostRuntime) {
     let text = Vec::from_slice(rt.alloc(), b"{\"history\":[]}").expect(&rt, "memory");
     is_answer(&rt, Answer::Shown(ShownText::of(text)), "#{\"history\":[]}");
 }
@@ -130,9 +125,9 @@ fn is_refused(rt: &(impl Abort + AllocGlobal), refusal: Refusal, line: &str) {
     is_answer(rt, Answer::Refused(refusal), line);
 }
 
-// `mps_line::Reply::write` appends each reason for which a room refuses a command, `needed` and `final` with the step.
+// `Reply::write` appends each reason for which a room refuses a command, `needed` and `final` with the step.
 #[test]
-fn each_refusal_of_a_room_is_written(rt: HostRuntime) {
+fn refused(rt: HostRuntime) {
     for (violation, line) in VIOLATIONS {
         is_refused(&rt, Refusal::Violation(*violation), line);
     }
@@ -152,9 +147,9 @@ fn each_refusal_of_a_room_is_written(rt: HostRuntime) {
     );
 }
 
-// `mps_line::Reply::write` appends each refusal that a script, a conversation or a server gives by itself.
+// `Reply::write` appends each refusal that a script, a conversation or a server gives by itself.
 #[test]
-fn each_refusal_that_no_room_gives_is_written(rt: HostRuntime) {
+fn refusals_that_no_room_gives(rt: HostRuntime) {
     is_written(&rt, &Reply::BadLine, "#refused line");
     is_written(&rt, &Reply::NoSession, "#refused nosession");
     is_written(&rt, &Reply::NoRole, "#refused norole");

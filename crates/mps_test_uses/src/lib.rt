@@ -5,8 +5,6 @@
 #[cfg(test)]
 mod embedding;
 #[cfg(test)]
-mod lines_and_servers;
-#[cfg(test)]
 mod rooms;
 #[cfg(test)]
 mod sessions;

@@ -10,8 +10,7 @@ use std::test::Fail;
 // a gives b an int, and b gives c one.
 pub(crate) const RELAY: &[u8] = b"roles a b c ; a -> b : int . b -> c : int . end";
 
-// mps_session: `open_protocol`, `Session::forward`, `undo` and `len`: a session of a protocol, as the tour opens it. A
-// send and its undo leave no step.
+// A session of a protocol, as the tour opens it: a send and its undo leave no step.
 #[test]
 fn takes_a_step_back(rt: HostRuntime) -> Result<(), Fail> {
     let alloc = rt.alloc();
@@ -24,14 +23,13 @@ fn takes_a_step_back(rt: HostRuntime) -> Result<(), Fail> {
     let value = Value::Int(5);
     let done = session.forward(a, Forward::Send { to: b, value })?;
     session.undo(a, done.id)?;
-    assert_eq!(rt; session.len(), 0, "no step is left");
+    assert_eq!(rt; session.len(), 0);
     Ok(())
 }
 
-// mps_session: `Session::open`, `forward`, `expect` and `undo`: the calls that its README shows. After its one send a's
-// type has ended, until that is undone.
+// The calls that the README of mps_session shows: after its send a's type has ended, until that is undone.
 #[test]
-fn a_type_ends_after_its_only_send(rt: HostRuntime) -> Result<(), Fail> {
+fn opens_a_session_of_types(rt: HostRuntime) -> Result<(), Fail> {
     let alloc = rt.alloc();
     let protocol = read_protocol(alloc, RELAY)?;
     check(&protocol)?;
@@ -44,7 +42,7 @@ fn a_type_ends_after_its_only_send(rt: HostRuntime) -> Result<(), Fail> {
     let value = Value::Int(5);
     let done = session.forward(a, Forward::Send { to: b, value })?;
     let next = session.expect(a);
-    assert!(rt; matches!(next, Expect::End), "a's type has ended");
+    assert!(rt; matches!(next, Expect::End));
     session.undo(a, done.id)?;
     Ok(())
 }
