@@ -8,6 +8,9 @@
 # each change, and no program can set it otherwise. (Two changes at nearly the same moment may have the same time, so no
 # note is written of sources that were changed within the last seconds.) A note that is missing or isn't whole only costs
 # the time to read the sources.
+
+# a file that may grow no more is a full disk, and no end of the program
+trap '' XFSZ
 here=$(dirname "$(readlink -f "$0")")
 note=$here/out/sources
 

@@ -1,4 +1,5 @@
-"""journal: what the file of a recorded session has, without a server."""
+"""journal: what the file of a recorded session has, without a server; and how a session is begun anew."""
+import fcntl
 import os
 import re
 import subprocess
@@ -8,13 +9,14 @@ import journals
 import output
 
 NAME = re.compile(r"([1-9][0-9]{0,18})\.journal")
+SESSION = re.compile("[1-9][0-9]{0,18}")
 NUMBERED = re.compile(rb"([a-z][a-z0-9_]*) ([1-9][0-9]*) (.+)", re.DOTALL)
 LONGEST = 583  # bytes of a line without its LF
 CHANGED = "it doesn't end in its seal: it, or a line before it, was changed, moved, doubled or left out"
 
 
 class Unread(Exception):
-    """Why a file can't be read as that of a session."""
+    """Why a file can't be read as that of a session, or a session can't be removed."""
 
 
 def bytes_of(path):
@@ -98,6 +100,45 @@ class Journal:
             yield f"line {self.fault[0]}: {self.fault[1]}"
         elif self.rest:
             yield f"after the last line stand {len(self.rest)} bytes of one that wasn't answered: the next start cuts them off"
+
+
+def own(path, owner):
+    """The file of a folder with this owner, to be added to. It is made where there is none, as the server makes it; no link is followed."""
+    number = os.open(path, os.O_WRONLY | os.O_APPEND | os.O_CREAT | os.O_NOFOLLOW | os.O_NONBLOCK, 0o600)
+    if os.geteuid() == 0:
+        os.fchown(number, owner.st_uid, owner.st_gid)
+    return os.fdopen(number, "ab")
+
+
+def drop(folder, session):
+    """Notes that the session was removed, and then takes its journal away, which no server may have."""
+    path = os.path.join(folder, f"{session}.journal")
+    owner = os.stat(folder)
+    with own(path, owner) as kept:
+        try:
+            fcntl.flock(kept, fcntl.LOCK_EX | fcntl.LOCK_NB)
+        except OSError:
+            raise Unread(f"{path}: a server has it") from None
+        with own(os.path.join(folder, "sessions"), owner) as noted:
+            # alone on its line, also where the one before it was torn
+            noted.write(f"\n{session} removed\n".encode())
+            noted.flush()
+            os.fsync(noted.fileno())
+        os.unlink(path)
+
+
+def remove(folder, session):
+    """Has the next server begin the session of that number anew. The exit status."""
+    try:
+        if not SESSION.fullmatch(session):
+            raise Unread(f"{session}: no number of a session")
+        if not os.path.isfile(os.path.join(folder, "protocol")):
+            raise Unread(f"{folder}: no folder that records sessions")
+        drop(folder, session)
+    except (Unread, OSError) as error:
+        output.tell(f"{error}\n".encode())
+        return 2
+    return 0
 
 
 def tell(program, path, as_script):

@@ -14,6 +14,8 @@ mps explain FILE SCRIPT        of each line of the script that is refused or unr
 mps journal FILE [--script]    what the file of a recorded session has, FOLDER/K.journal: how many entries, each role's newest
                                number, and the first line that is wrong, if one is; with --script its lines as a script.
                                It asks no server; ends with 3 where a line is wrong, and else with 0
+mps journal --remove FOLDER K  has the next server begin session K of FOLDER anew, and takes its file away, which no server
+                               may have
 mps prove                      builds the proved program and the proved library: each crate is proved, side by side on
                                all cores, which takes about half an hour; prints where the program stands
 mps which [--path]             tells which program runs, and of which sources; with --path prints only where it stands
@@ -54,7 +56,7 @@ from sources import built, noted_digest  # noqa: E402
 
 # the words that each order of mps itself may have after it
 USES = {"prove": "", "which": "[--path]", "install": "DIR", "explain": "FILE [SCRIPT]", "library": "DIR",
-        "journal": "FILE [--script]"}
+        "journal": "FILE [--script] | --remove FOLDER K"}
 PROGRAMS = ("check", "run", "same", "serve")  # the orders of the program
 HELP = ("--help", "-h", "help")
 VERBOSE = ("-v", "--verbose")  # by which the program says more
@@ -76,6 +78,8 @@ def may_follow(order, words):
     """Whether these words may follow an order of mps itself. No path among them begins with `-`."""
     if order == "which":
         return words in ([], ["--path"])
+    if order == "journal" and words[:1] == ["--remove"]:
+        return len(words) == 3 and not any(word.startswith("-") for word in words[1:])
     if order == "explain" and words[1:] == ["-"] or order == "journal" and words[1:] == ["--script"]:
         words = words[:1]
     most = {"prove": 0, "explain": 2}.get(order, 1)
@@ -163,6 +167,8 @@ def main():
         output.write(f"{building.install(program_of(sources), *words)}\n")
     elif order == "explain":
         sys.exit(explained(program_of(sources), *words))
+    elif order == "journal" and words[0] == "--remove":
+        sys.exit(journal.remove(*words[1:]))
     elif order == "journal":
         sys.exit(journal.tell(program_of(sources), words[0], words[1:] == ["--script"]))
     else:

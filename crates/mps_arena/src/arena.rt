@@ -41,7 +41,7 @@ impl Model for Arena {
 }
 
 impl Arena {
-    /// An arena with no steps. The allocator is kept for later growth.
+    /// An arena with no steps. It does not allocate; the allocator is kept for `reserve_one`.
     pub fn new(alloc: Global) -> Arena
         ensures keyed_steps { result.keyed_steps ≡ [] }
         ensures issued { result.issued ≡ 0 }
@@ -53,8 +53,8 @@ impl Arena {
         }
     }
 
-    /// Reserves memory for one step more, and tells the key that it will have. Where 2^32 - 1 keys are in use, that is
-    /// reported as lack of memory. No other call allocates.
+    /// Reserves memory for one more step, and returns the key that it will have. The only call that allocates,
+    /// amortised O(1). Out of memory, or 2^32 - 1 keys in use, is the only error; steps and numbers are unchanged then.
     #[inline(always)]
     pub fn reserve_one(&mut self) -> Result<Key, AllocError>
         ensures space { OnOk result (IsTrue self.new.has_space) }
@@ -69,9 +69,9 @@ impl Arena {
         Key::of(self.nodes.vacant_key())
     }
 
-    /// Puts an act of the role after all other steps, unmarked, and tells the number that it has. A receipt or a pick
-    /// comes with the send that it is matched with: the first of its pair that isn't received. Memory has to be
-    /// reserved.
+    /// Appends an act of the role as a step, unmarked, in O(1), and returns its number, the next one. A receipt or a
+    /// pick comes with its `source`, the first unreceived send of its pair. Memory has to be reserved, so it can't
+    /// fail.
     #[inline(always)]
     pub fn add(&mut self, role: Role, act: Act, before: Before, source: Option<Key>) -> StepId
         requires space { IsTrue self.old.has_space }
@@ -99,8 +99,8 @@ impl Arena {
         id
     }
 
-    /// Removes a step that is the last of its role and, if it is a send or a choice, isn't received. It gives the step,
-    /// and does not allocate.
+    /// Removes and returns a step that is the last of its role and, if it is a send or a choice, isn't received. O(1);
+    /// it does not allocate. The number is never given out again, the key is the next to be used.
     pub fn remove(&mut self, key: Key) -> Step
         requires { CanGo self.old.keyed_steps key }
         ensures step { option_map (λ e. e.step) (keyed_at key self.old.keyed_steps) ≡ Some result }
@@ -118,7 +118,7 @@ impl Arena {
         node.step
     }
 
-    /// How many steps there are. The clause `sound` is for callers' proofs, as of `steps_are_sound`.
+    /// How many steps there are now. The clause `sound` is for callers' proofs, as of `steps_are_sound`.
     pub fn len(&self) -> usize
         ensures count { result ≡ length self.now.keyed_steps }
         // numbers rise, no key stands twice, and no receipt comes before its send
@@ -127,7 +127,8 @@ impl Arena {
         self.nodes.len()
     }
 
-    /// The key of the k-th step, from 0, if there are so many. It takes O(k) time.
+    /// The key of the k-th step in order, from 0, or `None` where there are not so many. O(k): it walks from the
+    /// oldest.
     pub fn nth(&self, k: usize) -> Option<Key>
         ensures { result ≡ slice_get (keys_of any_step self.now.keyed_steps) k }
     {
@@ -141,56 +142,61 @@ impl Arena {
         Some(at)
     }
 
-    /// How many numbers were given out, also to steps that were removed since.
+    /// How many numbers were given out: also to steps that were removed since, so it never falls.
     pub fn issued(&self) -> usize
         ensures { result ≡ self.now.issued }
     {
         self.index.len()
     }
 
-    /// The step right after this one, if there is one; none where no step has the key.
+    /// The key of the step right after this one in the order of all; `None` for the newest, and where no step has the
+    /// key. O(1).
     pub fn next(&self, key: Key) -> Option<Key>
         ensures { result ≡ next_in self.now.keyed_steps key }
     {
         self.nodes.get(key.place())?.next.key()
     }
 
-    /// The step right before this one, if there is one; none where no step has the key.
+    /// The key of the step right before this one in the order of all; `None` for the oldest, and where no step has the
+    /// key. O(1).
     pub fn prev(&self, key: Key) -> Option<Key>
         ensures { result ≡ prev_in self.now.keyed_steps key }
     {
         self.nodes.get(key.place())?.prev.key()
     }
 
-    /// The next step of the same role, if there is one; none where no step has the key.
+    /// The key of the next step of the same role; `None` for its newest, and where no step has the key. O(1).
     pub fn next_of_role(&self, key: Key) -> Option<Key>
         ensures { result ≡ next_of_role_in self.now.keyed_steps key }
     {
         self.nodes.get(key.place())?.next_of_role.key()
     }
 
-    /// The previous step of the same role, if there is one; none where no step has the key.
+    /// The key of the previous step of the same role; `None` for its oldest, and where no step has the key. O(1).
     pub fn prev_of_role(&self, key: Key) -> Option<Key>
         ensures { result ≡ prev_of_role_in self.now.keyed_steps key }
     {
         self.nodes.get(key.place())?.prev_of_role.key()
     }
 
-    /// The next send of the same pair, if there is one; none where the key is no send's.
+    /// The key of the next send or choice of the same pair, sender and receiver; `None` for its newest, and where the
+    /// key is no send's. O(1).
     pub fn next_send(&self, key: Key) -> Option<Key>
         ensures { result ≡ next_send_in self.now.keyed_steps key }
     {
         self.nodes.get(key.place())?.next_send.key()
     }
 
-    /// The previous send of the same pair, if there is one; none where the key is no send's.
+    /// The key of the previous send or choice of the same pair, sender and receiver; `None` for its oldest, and where
+    /// the key is no send's. O(1).
     pub fn prev_send(&self, key: Key) -> Option<Key>
         ensures { result ≡ prev_send_in self.now.keyed_steps key }
     {
         self.nodes.get(key.place())?.prev_send.key()
     }
 
-    /// The receipt of a send, if it was received; none where the key is no send's.
+    /// The key of the receipt that took the message of a send or a choice; `None` where it still waits, and where the
+    /// key is no send's. O(1).
     pub fn receipt(&self, key: Key) -> Option<Key>
         ensures { result ≡ receipt_in self.now.keyed_steps key }
     {
@@ -198,7 +204,8 @@ impl Arena {
         receipt_at(&node.step.act, node.matched)
     }
 
-    /// The send of a receipt; none where the key is no receipt's.
+    /// The key of the send or choice whose message a receipt or a pick took; `None` where the key is of no such step.
+    /// O(1).
     pub fn source(&self, key: Key) -> Option<Key>
         ensures { result ≡ source_in self.now.keyed_steps key }
     {
@@ -206,15 +213,15 @@ impl Arena {
         source_at(&node.step.act, node.matched)
     }
 
-    /// The number of the step; none where no step has the key. So it tells whether `get`, `before` and `marked` may be
-    /// called.
+    /// The number of the step; `None` where no step has the key. So it tells whether `get`, `before` and `marked` may
+    /// be called.
     pub fn id(&self, key: Key) -> Option<StepId>
         ensures { result ≡ id_in self.now.keyed_steps key }
     {
         Some(self.nodes.get(key.place())?.step.id)
     }
 
-    /// The step of the key, which has to be there.
+    /// The step of the key, which has to be there (`id` tells), borrowed. O(1).
     pub fn get(&self, key: Key) -> &Step
         requires { IsSome (keyed_at key self.now.keyed_steps) }
         ensures { option_map (λ e. e.step) (keyed_at key self.now.keyed_steps) ≡ Some result.now }
@@ -222,8 +229,8 @@ impl Arena {
         &self.nodes[key.place()].step
     }
 
-    /// What was there before the step of the key, which has to be there: where its role stood, and to what the name
-    /// that it binds was bound.
+    /// What was there before the step of the key, which has to be there: the node at which its role stood, and the step
+    /// to which the name that it binds was bound; for undoing it. O(1).
     pub fn before(&self, key: Key) -> Before
         requires { IsSome (keyed_at key self.now.keyed_steps) }
         ensures { option_map (λ e. e.before) (keyed_at key self.now.keyed_steps) ≡ Some result }
@@ -235,7 +242,8 @@ impl Arena {
         }
     }
 
-    /// Whether the step of the key, which has to be there, is marked.
+    /// Whether the step of the key, which has to be there, has its flag set: the one that `set_mark` sets, not a `Mark`
+    /// that a role left.
     pub fn marked(&self, key: Key) -> bool
         requires { IsSome (keyed_at key self.now.keyed_steps) }
         ensures { option_map (λ e. e.marked) (keyed_at key self.now.keyed_steps) ≡ Some result }
@@ -243,7 +251,8 @@ impl Arena {
         self.nodes[key.place()].marked
     }
 
-    /// Marks the step of the key, or removes its mark. Where no step has the key, nothing changes.
+    /// Sets or clears the flag of the step, by which walks note where they were. Where no step has the key, nothing
+    /// changes. O(1).
     pub fn set_mark(&mut self, key: Key, marked: bool)
         ensures keyed_steps { self.new.keyed_steps ≡ map (with_mark key marked) self.old.keyed_steps }
         ensures issued { self.new.issued ≡ self.old.issued }
@@ -253,7 +262,8 @@ impl Arena {
         set_marked(&mut self.nodes, key, marked);
     }
 
-    /// The key of the step that has the number, if it is still there.
+    /// The key of the step that has the number, or `None` where it was removed or never given out. O(1): numbers have
+    /// an index.
     pub fn by_id(&self, id: StepId) -> Option<Key>
         ensures { result
             ≡ option_map (λ e. e.key) (find (λ e. e.step.id == id) self.now.keyed_steps) }
@@ -261,21 +271,21 @@ impl Arena {
         key_of(&self.nodes, self.index.as_slice(), id)
     }
 
-    /// The key of the oldest step, if there is a step.
+    /// The key of the oldest step, or `None` without steps. O(1).
     pub fn first(&self) -> Option<Key>
         ensures { result ≡ first_key (keys_of any_step self.now.keyed_steps) }
     {
         self.ends.first.key()
     }
 
-    /// The key of the newest step, if there is a step.
+    /// The key of the newest step, or `None` without steps. O(1).
     pub fn last(&self) -> Option<Key>
         ensures { result ≡ last_key None (keys_of any_step self.now.keyed_steps) }
     {
         self.ends.last.key()
     }
 
-    /// The key of the role's newest step, if it has one.
+    /// The key of the role's newest step, or `None` where it has none. O(1).
     pub fn last_of(&self, role: Role) -> Option<Key>
         requires { role < 8 }
         ensures { result ≡ last_key None (keys_of (of_role role) self.now.keyed_steps) }
@@ -283,7 +293,7 @@ impl Arena {
         self.ends.last_of[role.index()].key()
     }
 
-    /// The key of the newest send from one role to the other, received or not, if there is one.
+    /// The key of the newest send or choice from one role to the other, received or not, or `None`. O(1).
     pub fn last_send(&self, from: Role, to: Role) -> Option<Key>
         requires from { from < 8 }
         requires to { to < 8 }

@@ -9,7 +9,8 @@ ghost use Rattle.mps_arena.specs.KeyedSteps.{IsSmall};
 use crate::node::{Before, Key, Link, Node};
 use mps_base::{Act, Step};
 
-/// The first and the last steps: of all, of each role, of each pair.
+/// The ends of an arena's linked lists: of all steps, of each role's, of each pair's sends. With them a step is
+/// appended in O(1).
 #[derive(Drop)]
 pub(crate) struct Ends {
     pub(crate) first: Link,
@@ -20,7 +21,7 @@ pub(crate) struct Ends {
 }
 
 impl Ends {
-    /// The ends of an arena that has no steps.
+    /// The ends of an arena without steps: no link anywhere. It does not allocate.
     pub(crate) fn new() -> Ends
         ensures first { result.first ≡ None }
         ensures last { result.last ≡ None }
@@ -38,8 +39,8 @@ impl Ends {
         }
     }
 
-    /// Makes the node of a step that comes after all others, with links to the steps before it. `source` is the send
-    /// that a receipt takes. The nodes before it aren't changed yet.
+    /// The node of a step that is about to be appended, with links back to the last of each of its lists. `source` is
+    /// the send that a receipt takes. Neither the ends nor other nodes are changed yet: `push` and `join` do that.
     pub(crate) fn node_after(&self, step: Step, before: Before, source: Option<Key>) -> Node
         requires small { IsSmall step }
         requires role_count { length self.now.last_of ≡ 8 }
@@ -78,7 +79,8 @@ impl Ends {
         }
     }
 
-    /// Notes that the step now stands after all others, under that key.
+    /// Makes the step, under that key, the last of all, of its role and, for a send, of its pair. Called after
+    /// `node_after`, which needs the old ends.
     pub(crate) fn push(&mut self, step: &Step, key: Key)
         requires { IsSmall step.now }
         ensures first { self.new.first ≡ option_or self.old.first (Some key) }
@@ -98,7 +100,8 @@ impl Ends {
         }
     }
 
-    /// Notes that a node goes. It is the last of its role, so a send is also the last of its pair.
+    /// Takes a removed node off the ends: where it was an end, its neighbour is now. It was the last of its role, so a
+    /// send was also the last of its pair.
     pub(crate) fn part(&mut self, node: &Node)
         requires { IsSmall node.now.step }
         ensures first { self.new.first ≡ (if is_none node.now.prev then node.now.next else self.old.first) }

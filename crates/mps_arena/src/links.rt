@@ -10,7 +10,8 @@ use crate::node::{Key, Link, Node};
 use mps_base::StepId;
 use slab::Slab;
 
-/// Sets what stands right after the node at `at`. Where there is no such node, nothing changes.
+/// Sets what comes right after the node at `at` in the order of all. Without such a node, nothing changes, so callers
+/// needn't ask whether there is a neighbour.
 pub(crate) fn set_next(nodes: &mut Slab<Node>, at: Link, to: Link)
     ensures { Rewrites nodes.old nodes.new (λ k n.
         record n { next = if is_at at k then to else n.next }) }
@@ -22,7 +23,8 @@ pub(crate) fn set_next(nodes: &mut Slab<Node>, at: Link, to: Link)
     }
 }
 
-/// Sets what stands right before the node at `at`. Where there is no such node, nothing changes.
+/// Sets what comes right before the node at `at` in the order of all, as `set_next` does after it. Without such a node,
+/// nothing changes. O(1).
 pub(crate) fn set_prev(nodes: &mut Slab<Node>, at: Link, to: Link)
     ensures { Rewrites nodes.old nodes.new (λ k n.
         record n { prev = if is_at at k then to else n.prev }) }
@@ -34,7 +36,8 @@ pub(crate) fn set_prev(nodes: &mut Slab<Node>, at: Link, to: Link)
     }
 }
 
-/// Sets the role's step after the node at `at`. Where there is no such node, nothing changes.
+/// Sets what comes next after the node at `at` among its role's steps. Without such a node, as for a role's first step,
+/// nothing changes. O(1).
 pub(crate) fn set_next_of_role(nodes: &mut Slab<Node>, at: Link, to: Link)
     ensures { Rewrites nodes.old nodes.new (λ k n.
         record n { next_of_role = if is_at at k then to else n.next_of_role }) }
@@ -46,7 +49,8 @@ pub(crate) fn set_next_of_role(nodes: &mut Slab<Node>, at: Link, to: Link)
     }
 }
 
-/// Sets the pair's send after the node at `at`. Where there is no such node, nothing changes.
+/// Sets what comes next after the node at `at` among its pair's sends. Without such a node, as for a pair's first send,
+/// nothing changes. O(1).
 pub(crate) fn set_next_send(nodes: &mut Slab<Node>, at: Link, to: Link)
     ensures { Rewrites nodes.old nodes.new (λ k n.
         record n { next_send = if is_at at k then to else n.next_send }) }
@@ -58,7 +62,8 @@ pub(crate) fn set_next_send(nodes: &mut Slab<Node>, at: Link, to: Link)
     }
 }
 
-/// Sets what the node at `at` is matched with. Where there is no such node, nothing changes.
+/// Sets what the node at `at` is matched with: the receipt of a send, or nothing once the receipt is removed. Without
+/// such a node, as for a step that is no receipt, nothing changes. O(1).
 pub(crate) fn set_matched(nodes: &mut Slab<Node>, at: Link, to: Link)
     ensures { Rewrites nodes.old nodes.new (λ k n.
         record n { matched = if is_at at k then to else n.matched }) }
@@ -70,7 +75,7 @@ pub(crate) fn set_matched(nodes: &mut Slab<Node>, at: Link, to: Link)
     }
 }
 
-/// Marks the node of the key, or removes its mark. Where there is no such node, nothing changes.
+/// Sets or clears the flag of the node with the key, for `Arena::set_mark`. Without such a node, nothing changes. O(1).
 pub(crate) fn set_marked(nodes: &mut Slab<Node>, key: Key, marked: bool)
     ensures { Rewrites nodes.old nodes.new (λ k n.
         record n { marked = if k == key then marked else n.marked }) }
@@ -80,8 +85,8 @@ pub(crate) fn set_marked(nodes: &mut Slab<Node>, key: Key, marked: bool)
     }
 }
 
-/// Adds a node under the next key, after the last of each of its chains and matched with its send. Memory for it was
-/// reserved, so it can't fail.
+/// Inserts a node under the next free key, and links the last node of each of its lists to it, and its send to it.
+/// Memory was reserved, so it can't fail. O(1).
 #[inline(always)]
 pub(crate) fn join(nodes: &mut Slab<Node>, key: Key, node: Node)
     requires room { HasRoomFor nodes.old 1 }
@@ -103,7 +108,8 @@ pub(crate) fn join(nodes: &mut Slab<Node>, key: Key, node: Node)
     set_matched(nodes, matched, link);
 }
 
-/// Removes a node that is the last of its role, and links its neighbours. Its key is the next that is given.
+/// Removes a node that is the last of its role, links its neighbours to each other, and frees its send to be received
+/// again. Its key is the next that is given. O(1).
 pub(crate) fn part(nodes: &mut Slab<Node>, key: Key) -> Node
     requires { ContainsKey nodes.old key }
     ensures node { get nodes.old key ≡ Some result }
@@ -124,8 +130,8 @@ pub(crate) fn part(nodes: &mut Slab<Node>, key: Key) -> Node
     node
 }
 
-/// The key of the step that has the number, if it is still there. Numbers begin with 1. The index has the key that the
-/// number had; the node there may be gone, or be another step's by now.
+/// The key of the step that has the number, from 1, or `None`. The index has the key that the number had; the node
+/// there may be gone or be a later step's by now, so its number is compared. O(1).
 pub(crate) fn key_of(nodes: &Slab<Node>, index: &[Key], id: StepId) -> Option<Key>
     ensures { result ≡ indexed_key (get nodes.now) index.now id }
 {

@@ -24,7 +24,8 @@ impl Model for Key {
 }
 
 impl Key {
-    /// The key of a place. From 2^32 - 1 on there is none, which is reported as lack of memory.
+    /// The key of a place, which has to be below 2^32 - 1; from there on it is the error of out of memory, since a
+    /// `Link` has no room for it.
     pub(crate) fn of(place: usize) -> Result<Key, AllocError>
         ensures key { IfOk result (λ key. key ≡ place) }
         ensures small { IfOk result (λ key. place + 1 < 2 ^ 32) }
@@ -36,7 +37,8 @@ impl Key {
         Ok(Key(place as u32))
     }
 
-    /// The key of a place below 2^32 - 1.
+    /// The key of a place that is known to be below 2^32 - 1, as that of reserved memory: `of` without a test, so it
+    /// can't fail.
     pub(crate) fn small(place: usize) -> Key
         requires { place + 1 < 2 ^ 32 }
         ensures { result ≡ place }
@@ -44,14 +46,14 @@ impl Key {
         Key(place as u32)
     }
 
-    /// Whether both are the same key.
+    /// Whether both are the same key: `==` on copies, so that callers need no references.
     pub fn is(self, other: Key) -> bool
         ensures { result ≡ (self == other) }
     {
         self.0 == other.0
     }
 
-    /// The place of the key among the nodes.
+    /// The place of the key as an index of the slab of nodes, below 2^32 - 1.
     pub(crate) fn place(self) -> usize
         ensures place { result ≡ self }
         ensures small { result + 1 < 2 ^ 32 }
@@ -82,21 +84,21 @@ impl Model for Link {
 }
 
 impl Link {
-    /// The link where there is no neighbour.
+    /// The link to no neighbour, stored as 0.
     pub fn none() -> Link
         ensures { result ≡ None }
     {
         Link(0)
     }
 
-    /// The link to the neighbour of that key.
+    /// The link to the neighbour of that key, stored as the key plus 1. Each key is below 2^32 - 1, so this fits.
     pub fn to(key: Key) -> Link
         ensures { result ≡ Some key }
     {
         Link(key.0 + 1)
     }
 
-    /// The link to the neighbour of that key, or that of no neighbour.
+    /// The link for an optional key, as callers outside have it: `to` for one, `none` for none.
     pub fn of(key: Option<Key>) -> Link
         ensures { result ≡ key }
     {
@@ -106,7 +108,7 @@ impl Link {
         }
     }
 
-    /// The key of the neighbour, if there is one.
+    /// The key of the neighbour, or `None`: the inverse of `of`.
     pub fn key(self) -> Option<Key>
         ensures { result ≡ self }
     {
@@ -117,7 +119,7 @@ impl Link {
         }
     }
 
-    /// Whether there is no neighbour.
+    /// Whether the link leads to no neighbour: one comparison with 0, without making the key.
     pub fn is_none(self) -> bool
         ensures { result ≡ is_none self }
     {
@@ -153,8 +155,8 @@ pub(crate) struct Node {
     pub(crate) matched: Link,
 }
 
-/// The receipt that an act is matched with, where it is a send and is received. `matched` is the link of the act's
-/// node.
+/// The receipt that an act is matched with, or `None` where it is no send or choice, or isn't received. `matched` is
+/// the link of the act's node, which has two meanings: here it is the receipt.
 pub(crate) fn receipt_at(act: &Act, matched: Link) -> Option<Key>
     ensures { result ≡ matched_receipt (effect act.now) matched }
 {
@@ -164,7 +166,8 @@ pub(crate) fn receipt_at(act: &Act, matched: Link) -> Option<Key>
     }
 }
 
-/// The send that an act is matched with, where it is a receipt or a pick. `matched` is the link of the act's node.
+/// The send that an act is matched with, or `None` where it is no receipt or pick. `matched` is the link of the act's
+/// node, which has two meanings: here it is the send.
 pub(crate) fn source_at(act: &Act, matched: Link) -> Option<Key>
     ensures { result ≡ matched_source (effect act.now) matched }
 {

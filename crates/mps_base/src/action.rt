@@ -26,14 +26,14 @@ impl Model for Role {
 }
 
 impl Role {
-    /// The role at this place; a session may have no such role.
+    /// The role at this place, from 0. Any byte is taken: a session has at most 8 roles, and may have no such role.
     pub const fn new(index: u8) -> Role
         ensures { result ≡ index }
     {
         Role(index as usize)
     }
 
-    /// The place of the role in the list of roles, from 0.
+    /// The place of the role in the session's list of roles, from 0, as an index of arrays; below 256.
     pub fn index(self) -> usize
         ensures place { result ≡ self }
         ensures small { result < 2 ^ 8 }
@@ -41,7 +41,7 @@ impl Role {
         self.0
     }
 
-    /// Whether both are the same role.
+    /// Whether both are the same role: `==` on copies, so that callers need no references.
     pub fn is(self, other: Role) -> bool
         ensures { result ≡ (self == other) }
     {
@@ -64,14 +64,14 @@ impl Model for StepId {
 }
 
 impl StepId {
-    /// The step of this number; a session may have no such step.
+    /// The step of this number. Any number is taken: a session may have no such step, and none has the number 0.
     pub const fn new(number: u64) -> StepId
         ensures { result ≡ number }
     {
         StepId(number)
     }
 
-    /// The number as an integer.
+    /// The number as an integer, as it is shown and written: 1 for the first step that a session accepts.
     pub fn number(self) -> u64
         ensures number { result ≡ self }
         ensures small { result < 2 ^ 64 }
@@ -79,14 +79,15 @@ impl StepId {
         self.0
     }
 
-    /// Whether both are the same number.
+    /// Whether both are the same number: `==` on copies, so that callers need no references.
     pub fn is(self, other: StepId) -> bool
         ensures { result ≡ (self == other) }
     {
         self.0 == other.0
     }
 
-    /// Whether this number is smaller than the other: in one session, whether its step was accepted earlier.
+    /// Whether this number is smaller than the other. Numbers rise in the order of acceptance, so within one session
+    /// this says whether the step was accepted earlier.
     pub fn is_before(self, other: StepId) -> bool
         ensures { result ≡ nat_lt self other }
     {
@@ -102,7 +103,8 @@ pub enum Message {
 }
 
 impl Message {
-    /// A copy of the message. Only that of a text allocates.
+    /// A copy that shares nothing with the message. Only a text allocates, at most 256 bytes; it fails only when out of
+    /// memory.
     pub fn copy(&self, alloc: Global) -> Result<Message, AllocError>
         ensures { IfOk result (λ message. message ≡ self.now) }
     {
@@ -123,7 +125,8 @@ pub enum Act {
 }
 
 impl Act {
-    /// A copy of the act. Only that of an act with a text allocates.
+    /// A copy that shares nothing with the act. Only an act with a text allocates, at most 256 bytes; it fails only
+    /// when out of memory.
     pub fn copy(&self, alloc: Global) -> Result<Act, AllocError>
         ensures { IfOk result (λ act. act ≡ self.now) }
     {
@@ -151,7 +154,8 @@ pub struct Step {
 }
 
 impl Step {
-    /// A copy of the step, with its number. Only that of a step with a text allocates.
+    /// A copy of the step, with the same number and role. Only a step with a text allocates, at most 256 bytes; it
+    /// fails only when out of memory.
     pub fn copy(&self, alloc: Global) -> Result<Step, AllocError>
         ensures { IfOk result (λ step. step ≡ self.now) }
     {

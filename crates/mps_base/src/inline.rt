@@ -33,7 +33,8 @@ impl Model for Inline {
 }
 
 impl Inline {
-    /// The word of these bytes.
+    /// The word of these bytes, which are copied: at most 32, of any values; names and variables test theirs first. It
+    /// does not allocate.
     pub(crate) fn of(bytes: &[u8]) -> Inline
         requires short { length bytes.now ≤ 32 }
         ensures { result ≡ bytes.now }
@@ -46,7 +47,7 @@ impl Inline {
         }
     }
 
-    /// The word that has no bytes yet.
+    /// The word of no bytes, to which `push` adds them one by one, as they are tested.
     pub(crate) fn empty() -> Inline
         ensures { result ≡ [] }
     {
@@ -56,7 +57,7 @@ impl Inline {
         }
     }
 
-    /// Puts a byte at the end of the word, which has space for it.
+    /// Appends a byte to the word, which must have fewer than 32. It does not allocate.
     pub(crate) fn push(&mut self, byte: u8)
         requires { length self.old < 32 }
         ensures { self.new ≡ self.old ++ byte ∷ [] }
@@ -65,8 +66,8 @@ impl Inline {
         self.len += 1;
     }
 
-    /// Whether the word has just these bytes. They are compared one by one where they stand, since most words are
-    /// short.
+    /// Whether the word has exactly these bytes. They are compared one by one in place, not by a call of memcmp, since
+    /// most words are short.
     pub(crate) fn is_spelled(&self, bytes: &[u8]) -> bool
         ensures { IsTrue result ↔ (self.now ≡ bytes.now) }
     {
@@ -78,7 +79,8 @@ impl Inline {
                 .all(|pair| pair.0 == pair.1)
     }
 
-    /// The bytes of the word, and bytes after them of which nothing is promised: all 32 are copied at once.
+    /// A copy of all 32 bytes of the storage: the word, and after it bytes of which nothing is promised. One copy of
+    /// fixed size takes less than one of the word's own length.
     #[inline(always)]
     pub(crate) fn padded(&self) -> [u8; MAX_WORD]
         ensures { take (length self.now) result ≡ self.now }
@@ -86,7 +88,7 @@ impl Inline {
         self.bytes
     }
 
-    /// The bytes of the word, from the first to the last.
+    /// The bytes of the word without the padding: 0 to 32, borrowed.
     pub(crate) fn as_bytes(&self) -> &[u8]
         ensures { result.now ≡ self.now }
     {

@@ -40,7 +40,7 @@ impl PartialEq for Name {
 
     ghost laws = { partial_equiv_from_equiv nat_list_eq_equiv };
 
-    // Whether both names are spelled alike.
+    // The `==` of names, for maps and derived types: whether both have the same bytes.
     fn eq(&self, other: &Name) -> bool {
         self.is(other)
     }
@@ -55,7 +55,8 @@ impl Hash for Name {
 
     ghost respects_eq = { Prim.search (hashing, rules) };
 
-    // Hashes the name as a `str` is hashed: its bytes, and then 0xff, which stands in no name.
+    // Hashes the name as a `str` is hashed: its bytes, and then 0xff, which stands in no name, so that no name's input
+    // is the beginning of another's.
     fn hash<H: Hasher>(&self, state: &mut H) {
         state.write(self.as_bytes());
         state.write_u8(0xff);
@@ -63,7 +64,8 @@ impl Hash for Name {
 }
 
 impl Name {
-    /// Makes a name of these bytes; `None` where they spell no name, as a reserved word does.
+    /// Makes a name of these bytes, which are copied without allocating. `None` where they are not 1 to 32 small
+    /// letters, digits and `_` with a letter first, or where they are a reserved word.
     pub fn read(bytes: &[u8]) -> Option<Name>
         ensures some { IsSome result ↔ IsName bytes.now }
         ensures name { IfSome result (λ name. name ≡ bytes.now) }
@@ -74,7 +76,8 @@ impl Name {
         Some(Name(name_bytes(bytes)?))
     }
 
-    /// The bytes of the name, from the first to the last.
+    /// The bytes of the name without padding: 1 to 32, borrowed. The clause `name` says for callers' proofs that they
+    /// spell a name.
     pub fn as_bytes(&self) -> &[u8]
         ensures bytes { result.now ≡ self.now }
         ensures name { IsName self.now }
@@ -82,8 +85,8 @@ impl Name {
         self.0.as_bytes()
     }
 
-    /// The bytes of the name, and bytes after them of which nothing is promised. All 32 are copied at once, which takes
-    /// less than to copy as many as the name has.
+    /// A copy of 32 bytes: the name's, and after them bytes of which nothing is promised. One copy of fixed size takes
+    /// less than one of the name's own length; the caller knows that length.
     #[inline(always)]
     pub fn padded(&self) -> [u8; MAX_NAME]
         ensures bytes { take (length self.now) result ≡ self.now }
@@ -92,14 +95,15 @@ impl Name {
         self.0.padded()
     }
 
-    /// Whether both names are spelled alike.
+    /// Whether both names have the same bytes. `==` calls it; unlike that method it has a contract.
     pub fn is(&self, other: &Name) -> bool
         ensures { IsTrue result ↔ (self.now ≡ other.now) }
     {
         self.is_spelled(other.as_bytes())
     }
 
-    /// Whether these bytes, which may be any, are those of the name.
+    /// Whether the name has exactly these bytes, which may be any: so a look-up needs no `Name` of the bytes that it is
+    /// given. O(bytes).
     pub fn is_spelled(&self, bytes: &[u8]) -> bool
         ensures { IsTrue result ↔ (self.now ≡ bytes.now) }
     {
@@ -107,7 +111,8 @@ impl Name {
     }
 }
 
-// Whether the bytes are 1 to 32, of which the first is a small letter.
+// Whether there are 1 to 32 bytes, of which the first is a small letter: the tests of a name that take O(1), made
+// before each byte is looked at.
 fn begins_as_name(bytes: &[u8]) -> bool
     ensures { IsTrue result ↔ ((0 < length bytes.now) × (length bytes.now ≤ 32)
         × IsTrue (is_lower (slice_index bytes.now 0))) }
@@ -118,7 +123,8 @@ fn begins_as_name(bytes: &[u8]) -> bool
     }
 }
 
-// The bytes as a word, if each is one that a name may contain. They are looked at and kept in one pass.
+// The bytes as a word, or `None` where one of them is no small letter, digit or `_`. They are tested and copied in one
+// pass, and not in two.
 fn name_bytes(bytes: &[u8]) -> Option<Inline>
     requires { length bytes.now ≤ 32 }
     ensures some { IsSome result ↔ AllByRecursion (λ c. IsTrue (is_name_byte c)) bytes.now }
@@ -134,14 +140,15 @@ fn name_bytes(bytes: &[u8]) -> Option<Inline>
     Some(word)
 }
 
-// Whether the bytes are no reserved word. Each of those has three to five bytes, so most names are free at once.
+// Whether the bytes are no reserved word. Those have three to five bytes, so the length alone answers for most names.
 fn is_free(bytes: &[u8]) -> bool
     ensures { IsTrue result ↔ IsNoneOf reserved_words bytes.now }
 {
     bytes.len() < 3 || bytes.len() > 5 || is_no_word(bytes)
 }
 
-// Whether the bytes are none of the reserved words. It isn't inlined, since most names are free by their length.
+// Whether the bytes are none of the eight reserved words. Apart from `is_free` and not inlined, since the length
+// answers for most names.
 #[inline(never)]
 fn is_no_word(bytes: &[u8]) -> bool
     ensures { IsTrue result ↔ IsNoneOf reserved_words bytes.now }
@@ -149,21 +156,22 @@ fn is_no_word(bytes: &[u8]) -> bool
     is_no_structure(bytes) && is_no_sort(bytes) && is_no_bool(bytes)
 }
 
-// Whether the bytes are no word of a protocol's structure.
+// Whether the bytes are none of `roles`, `rec`, `end`, the words of a protocol's structure. Apart, as the definition
+// `structure_words` is: the reserved words come in three lists.
 fn is_no_structure(bytes: &[u8]) -> bool
     ensures { IsTrue result ↔ IsNoneOf structure_words bytes.now }
 {
     bytes != b"roles".as_slice() && bytes != b"rec".as_slice() && bytes != b"end".as_slice()
 }
 
-// Whether the bytes are no word for a sort.
+// Whether the bytes are none of `int`, `bool`, `text`, the words of sorts. Apart, as the definition `sort_words` is.
 fn is_no_sort(bytes: &[u8]) -> bool
     ensures { IsTrue result ↔ IsNoneOf sort_words bytes.now }
 {
     bytes != b"int".as_slice() && bytes != b"bool".as_slice() && bytes != b"text".as_slice()
 }
 
-// Whether the bytes are no word for a truth value.
+// Whether the bytes are neither `true` nor `false`, which spell values. Apart, as the definition `bool_words` is.
 fn is_no_bool(bytes: &[u8]) -> bool
     ensures { IsTrue result ↔ IsNoneOf bool_words bytes.now }
 {

@@ -7,8 +7,8 @@ ghost use Rattle.mps_base.specs.Numbers.{IsNumberText, IsIntText};
 use itoa::Buffer;
 use std::alloc::AllocError;
 
-/// Reads a number below 2^64: decimal digits, with no `0` in front of others. `None` for other bytes, and for a larger
-/// number.
+/// Reads all of the bytes as a number below 2^64: decimal digits, with no `0` in front of others. `None` for other
+/// bytes, and for a larger number. It does not allocate; O(bytes).
 pub fn read_number(bytes: &[u8]) -> Option<u64>
     ensures read { IfSome result (IsNumberText bytes.now) }
     ensures none { IfNone result ((n : ℕ) → n < 2 ^ 64 → IsNumberText bytes.now n → ⊥) }
@@ -20,11 +20,11 @@ pub fn read_number(bytes: &[u8]) -> Option<u64>
     }
 }
 
-// How many digits stand for a number below 2^64, whatever they are.
+// The most digits that stand for a number below 2^64 whatever they are: 10^19 is below 2^64, and 10^20 is not.
 const FEW: usize = 19;
 
-// Reads at most 19 digits as a number. Their sum stays below 2^64, so it isn't checked. `None` where a byte is no
-// digit.
+// Reads at most 19 digits as a number. The sum can't overflow, so it isn't checked: the fast path of `read_number`.
+// `None` where a byte is no digit.
 #[inline(always)]
 fn read_few(digits: &[u8]) -> Option<u64>
     requires { length digits.now ≤ 19 }
@@ -41,7 +41,8 @@ fn read_few(digits: &[u8]) -> Option<u64>
     Some(n)
 }
 
-// Reads any digits as a number, and checks each sum. `None` where a byte is no digit, or the number is 2^64 or more.
+// Reads any number of digits, and checks each sum for overflow. `None` where a byte is no digit, or the number is 2^64
+// or more.
 fn read_many(digits: &[u8]) -> Option<u64>
     ensures read { IfSome result (λ n. AllDigits 10 digits.now × (digits_value 10 digits.now ≡ n)) }
     ensures none { IfNone result (AllDigits 10 digits.now → 2 ^ 64 ≤ digits_value 10 digits.now) }
@@ -56,7 +57,8 @@ fn read_many(digits: &[u8]) -> Option<u64>
     Some(n)
 }
 
-/// Writes a number in decimal digits at the end of `out`, with no `0` in front.
+/// Appends a number to `out` in decimal digits, 1 to 20 of them, with no `0` in front. Out of memory is the only error,
+/// and leaves `out` unchanged.
 #[tactic(auto, using(crate::proofs::Numbers::decimal_is_number))]
 #[inline(always)]
 pub fn write_number(n: u64, out: &mut Vec<u8>) -> Result<(), AllocError>
@@ -67,8 +69,8 @@ pub fn write_number(n: u64, out: &mut Vec<u8>) -> Result<(), AllocError>
     out.extend_from_slice(digits.format(n).as_bytes())
 }
 
-// Reads an integer of 64 bits: `0`, or digits without a `0` in front, after a `-` if it is below 0. `None` for other
-// bytes, for `-0` and out of range.
+// Reads all of the bytes as an integer of 64 bits: `0`, or digits without a `0` in front, after a `-` if it is below 0.
+// `None` for other bytes, for `-0` and out of range.
 pub(crate) fn read_int(bytes: &[u8]) -> Option<i64>
     ensures read { IfSome result (IsIntText bytes.now) }
     ensures none { IfNone result ((z : ℤ) → IsIntText bytes.now z → ⊥) }
@@ -86,7 +88,8 @@ pub(crate) fn read_int(bytes: &[u8]) -> Option<i64>
     }
 }
 
-// Writes an integer at the end of `out`: decimal digits, after a `-` if it is below 0.
+// Appends an integer to `out`: 1 to 19 decimal digits, after a `-` if it is below 0. Out of memory is the only error,
+// and leaves `out` unchanged.
 pub(crate) fn write_int(n: i64, out: &mut Vec<u8>) -> Result<(), AllocError>
     ensures ok { OnOk result (AppendsSuch (λ text. IsIntText text n) out.old.items out.new.items) }
     ensures err { OnErr result (out.new.items ≡ out.old.items) }
@@ -95,7 +98,8 @@ pub(crate) fn write_int(n: i64, out: &mut Vec<u8>) -> Result<(), AllocError>
     out.extend_from_slice(text.format(n).as_bytes())
 }
 
-/// Each number below 2^64 has one spelling, and a text spells at most one number.
+/// A law: each number below 2^64 has one spelling, and a text spells at most one number. So numbers can be compared as
+/// text.
 pub fn one_number_spelling()
     ensures spelling { (a b : List ℕ) (n : ℕ) → n < 2 ^ 64
         → IsNumberText a n → IsNumberText b n → a ≡ b }

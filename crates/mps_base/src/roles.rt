@@ -45,8 +45,8 @@ impl Model for Roles {
 }
 
 impl Roles {
-    /// Makes the roles of a session of these names, which have to be 2 to 8 and distinct. The count is looked at first,
-    /// and memory is asked for last.
+    /// Makes the roles of a session from names, which are copied and keep their order. The first that applies is the
+    /// error: not 2 to 8 names, two the same, out of memory.
     pub fn of(alloc: Global, names: &[Name]) -> Result<Roles, RoleFault>
         ensures roles { IfOk result (λ roles. roles ≡ names.now) }
         ensures accepted { OnOk result (AreRoles names.now) }
@@ -66,7 +66,8 @@ impl Roles {
         Ok(Roles { names })
     }
 
-    /// How many roles there are. The clause `distinct` is for callers' proofs.
+    /// How many roles there are, 2 to 8. O(1). The clause `distinct` says for callers' proofs that no two have one
+    /// name.
     pub fn count(&self) -> usize
         ensures count { result ≡ length self.now }
         ensures some { 2 ≤ result }
@@ -76,7 +77,8 @@ impl Roles {
         self.names.len()
     }
 
-    /// The role of that name, if there is one.
+    /// The role of that name, or `None` where no role has it: `find_spelled` for callers that have a `Name`. At most 8
+    /// names are compared; it does not allocate.
     pub fn find(&self, name: &Name) -> Option<Role>
         ensures found { IfSome result (λ role. slice_get self.now role ≡ Some name.now) }
         ensures none { IfNone result (All (λ other. other ≢ name.now) self.now) }
@@ -85,8 +87,8 @@ impl Roles {
         self.find_spelled(name.as_bytes())
     }
 
-    /// The role whose name these bytes spell, if there is one. The bytes may be any, and are compared as they come: no
-    /// `Name` is made of them.
+    /// The role whose name these bytes spell, or `None`. The bytes may be any, so a reader of lines needs no `Name` of
+    /// them first. At most 8 names are compared; it does not allocate.
     #[tactic(auto, using(crate::proofs::RoleLists::one_place, crate::proofs::RoleLists::no_place))]
     pub fn find_spelled(&self, bytes: &[u8]) -> Option<Role>
         ensures name { IsSome result → IsName bytes.now }
@@ -101,7 +103,7 @@ impl Roles {
         Some(Role::new(place as u8))
     }
 
-    /// The name of a role, which has to be one of these.
+    /// The name of a role, which has to be one of these; it is copied, and does not allocate.
     pub fn name(&self, role: Role) -> Name
         requires { role < length self.now }
         ensures { slice_get self.now role ≡ Some result }
@@ -109,7 +111,7 @@ impl Roles {
         self.names[role.index()]
     }
 
-    /// A copy of the roles, in memory of its own.
+    /// A copy of the names in memory of its own, at most 8. It fails only when out of memory.
     pub fn copy(&self, alloc: Global) -> Result<Roles, AllocError>
         ensures { IfOk result (λ roles. roles ≡ self.now) }
     {
@@ -119,7 +121,8 @@ impl Roles {
     }
 }
 
-// The place of the first name that these bytes spell, if there is one.
+// The place of the first name that these bytes spell, or `None`. Apart, since `find_spelled` and `are_distinct` both
+// use it.
 fn find_name(names: &[Name], bytes: &[u8]) -> Option<usize>
     ensures found { IfSome result (λ place. slice_get names.now place ≡ Some bytes.now) }
     ensures none { IfNone result (All (λ other. other ≢ bytes.now) names.now) }
@@ -127,7 +130,8 @@ fn find_name(names: &[Name], bytes: &[u8]) -> Option<usize>
     names.iter().position(|name| name.is_spelled(bytes))
 }
 
-// Whether no name stands twice: each is compared with those after it. Calls are nested, at most 9 deep for 8 names.
+// Whether no name stands twice: each is compared with those after it, 28 comparisons for 8 names. The recursion is at
+// most 9 deep then.
 fn are_distinct(names: &[Name]) -> bool
     ensures { IsTrue result ↔ AreDistinct names.now }
 {

@@ -4,8 +4,8 @@ ghost use Rattle.mps_base.specs.Spaced.{spaced, with_token, with_tokens};
 
 use std::alloc::AllocError;
 
-/// Writes a token at the end of `out`, with a space before it where something stands there already. Where memory runs
-/// out, neither is written.
+/// Appends a token to `out`, with a space before it unless `out` is empty. Out of memory is the only error, and leaves
+/// `out` unchanged: neither space nor token is written.
 #[tactic(auto, using(crate::proofs::Spaced::first_token, crate::proofs::Spaced::next_token))]
 pub fn push_token(out: &mut Vec<u8>, token: &[u8]) -> Result<(), AllocError>
     ensures ok { OnOk result (out.new.items ≡ with_token out.old.items token.now) }
@@ -20,7 +20,8 @@ pub fn push_token(out: &mut Vec<u8>, token: &[u8]) -> Result<(), AllocError>
     out.extend_from_slice(token)
 }
 
-/// What `push_token` writes, token after token, is the tokens with one space between two, where the first isn't empty.
+/// A law: what `push_token` writes into an empty `out`, token after token, is the tokens with one space between two,
+/// where the first isn't empty. So writers compose.
 pub fn written_spaced()
     ensures parts { (out : List ℕ) (front back : List (List ℕ))
         → with_tokens out (front ++ back) ≡ with_tokens (with_tokens out front) back }

@@ -24,8 +24,8 @@ pub enum ValueFault {
 }
 
 impl Value {
-    /// Reads a value, which takes all of the bytes: an integer, `true` or `false`, or a text between quotes. Bytes that
-    /// spell no value are `Bad`.
+    /// Reads all of the bytes as one value: an integer, `true` or `false`, or a text between quotes. `Bad` for bytes
+    /// that spell no value; `Memory` only for a text, whose bytes are copied.
     #[tactic(auto, using(crate::proofs::Values::no_value, crate::proofs::Values::quoted_same))]
     pub fn read(alloc: Global, bytes: &[u8]) -> Result<Value, ValueFault>
         ensures read { IfOk result (SpellsValue bytes.now) }
@@ -47,7 +47,8 @@ impl Value {
         }
     }
 
-    /// Writes the value at the end of `out` as it is spelled: an integer, `true` or `false`, or a text between quotes.
+    /// Appends the value to `out` as it is spelled: an integer, `true` or `false`, or a text between quotes; at most
+    /// 258 bytes. Out of memory is the only error, and leaves `out` unchanged.
     pub fn write(&self, out: &mut Vec<u8>) -> Result<(), AllocError>
         ensures ok { OnOk result
             (AppendsSuch (λ text. SpellsValue text self.now) out.old.items out.new.items) }
@@ -62,7 +63,8 @@ impl Value {
     }
 }
 
-/// Each value has one spelling, a text spells at most one value, and no value is spelled like a name.
+/// A law: each value has one spelling, a text spells at most one value, and no value is spelled like a name. So values
+/// can be compared as text.
 #[tactic(auto, using(crate::proofs::Values::same_spelling))]
 pub fn one_spelling()
     ensures spelling { (a b : List ℕ) (v : Value) → SpellsValue a v → SpellsValue b v → a ≡ b }
@@ -70,14 +72,14 @@ pub fn one_spelling()
     ensures no_name { (a : List ℕ) (v : Value) → SpellsValue a v → IsName a → ⊥ }
 {}
 
-/// The spelling of a value stands on one line, and has at least one byte.
+/// A law: the spelling of a value has at least one byte and no line break, so it can stand as a token of a line.
 #[tactic(auto, using(crate::proofs::Values::shown))]
 pub fn one_line()
     ensures some { (a : List ℕ) (v : Value) → SpellsValue a v → 0 < length a }
     ensures shown { (a : List ℕ) (v : Value) → SpellsValue a v → AllByRecursion IsShown a }
 {}
 
-// The truth value whose word the bytes are, if they are one.
+// The truth value that the bytes spell, `true` or `false`, or `None` for other bytes.
 fn read_bool(bytes: &[u8]) -> Option<bool>
     ensures read { IfSome result (λ b. bytes.now ≡ bool_word b) }
     ensures none { IfNone result ((b : Bool) → bytes.now ≢ bool_word b) }
@@ -89,7 +91,8 @@ fn read_bool(bytes: &[u8]) -> Option<bool>
     }
 }
 
-// The bytes between the first and the last, where these two are quotes. What stands there isn't looked at.
+// The bytes between the first and the last, where these two are quotes; else `None`. What stands between isn't tested:
+// `read_text` does that.
 fn unquoted(bytes: &[u8]) -> Option<&[u8]>
     ensures found { IfSome result (λ inside. bytes.now ≡ quoted inside.now) }
     ensures none { IfNone result ((inside : List ℕ) → bytes.now ≢ quoted inside) }
@@ -100,8 +103,8 @@ fn unquoted(bytes: &[u8]) -> Option<&[u8]>
     }
 }
 
-// Makes a text value of a copy of these bytes, which stood between quotes. They are looked at before memory is asked
-// for, so bytes that are no text are `Bad` whatever memory there is.
+// Makes a text value of a copy of these bytes, which stood between quotes. They are tested before memory is asked for,
+// so bytes that are no text are `Bad` even when out of memory.
 fn read_text(alloc: Global, inside: &[u8]) -> Result<Value, ValueFault>
     ensures read { IfOk result (λ v. (v ≡ values.Text inside.now) × IsText inside.now) }
     ensures bad { IsErrOf result ValueFault.Bad → ¬ IsText inside.now }
@@ -114,8 +117,8 @@ fn read_text(alloc: Global, inside: &[u8]) -> Result<Value, ValueFault>
     Ok(Value::Text(text))
 }
 
-// Writes a text's bytes between quotes at the end of `out`, or nothing where memory runs out. None of them needs an
-// escape.
+// Appends a text's bytes between quotes to `out`. No byte of a text needs an escape. Memory is reserved once for all,
+// so an error leaves `out` unchanged.
 fn write_quoted(bytes: &[u8], out: &mut Vec<u8>) -> Result<(), AllocError>
     requires { IsText bytes.now }
     ensures ok { OnOk result (out.new.items ≡ out.old.items ++ quoted bytes.now) }

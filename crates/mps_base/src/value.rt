@@ -18,7 +18,7 @@ pub enum Sort {
 }
 
 impl Sort {
-    /// The word for the sort in a protocol's text.
+    /// The sort's word in protocol texts, which is reserved: `int`, `bool` or `text`.
     pub fn word(&self) -> &'static [u8]
         ensures { result.now ≡ sort_word self.now }
     {
@@ -29,7 +29,7 @@ impl Sort {
         }
     }
 
-    /// Whether both are the same sort.
+    /// Whether both are the same sort: `==` on copies, so that callers need no references.
     pub fn is(self, other: Sort) -> bool
         ensures { result ≡ same_sort self other }
     {
@@ -40,13 +40,13 @@ impl Sort {
     }
 }
 
-/// The definition `same_sort` says of two sorts whether they are equal, and a value fits its own sort alone.
+/// A law: the definition `same_sort` is equality of sorts, and a value fits its own sort alone.
 pub fn a_value_has_one_sort()
     ensures same { (s t : Sort) → (same_sort s t ≡ true) ↔ (s ≡ t) }
     ensures own { (v : Value) (s : Sort) → (fits v s ≡ true) ↔ (sort_of v ≡ s) }
 {}
 
-/// How many bytes a text may have.
+/// How many bytes a text may have at most.
 pub const MAX_TEXT: usize = 256;
 
 /// The content of a text value: 0 to 256 bytes from the space to `~`, without `"` and `\`.
@@ -67,8 +67,8 @@ impl Model for Text {
 }
 
 impl Text {
-    /// Makes a text of these bytes, which are kept and not copied. `None` where they may not stand in a text; they are
-    /// dropped then.
+    /// Makes a text of these bytes, which are kept and not copied. `None` where they are more than 256, or one may not
+    /// stand in a text; they are dropped then.
     pub fn new(bytes: Vec<u8>) -> Option<Text>
         ensures some { IsSome result ↔ IsText bytes.items }
         ensures text { IfSome result (λ text. text ≡ bytes.items) }
@@ -80,7 +80,8 @@ impl Text {
         }
     }
 
-    /// The text of a copy of these bytes.
+    /// A text of a copy of these bytes, which the caller has tested. It fails only when out of memory. Apart from
+    /// `new`, which keeps the vector that it is given.
     #[inline(never)]
     pub(crate) fn from_slice(alloc: Global, bytes: &[u8]) -> Result<Text, AllocError>
         requires { IsText bytes.now }
@@ -91,7 +92,7 @@ impl Text {
         })
     }
 
-    /// The bytes of the text, from the first to the last, without quotes.
+    /// The bytes of the text without quotes: 0 to 256, borrowed.
     pub fn as_bytes(&self) -> &[u8]
         ensures bytes { result.now ≡ self.now }
         ensures text { IsText self.now }
@@ -99,7 +100,7 @@ impl Text {
         &self.bytes
     }
 
-    /// A copy of the text, in memory of its own.
+    /// A copy of the text, in memory of its own. It fails only when out of memory.
     pub fn copy(&self, alloc: Global) -> Result<Text, AllocError>
         ensures { IfOk result (λ text. text ≡ self.now) }
     {
@@ -107,15 +108,16 @@ impl Text {
     }
 }
 
-// Whether the bytes may be a text: at most 256, each from the space to `~` and neither `"` nor `\`.
+// Whether the bytes may be a text: at most 256, each from the space to `~` and neither `"` nor `\`, so that none needs
+// an escape.
 pub(crate) fn is_text(bytes: &[u8]) -> bool
     ensures { IsTrue result ↔ IsText bytes.now }
 {
     bytes.len() <= MAX_TEXT && are_plain(bytes)
 }
 
-// Whether each byte is shown as itself between quotes. The loop doesn't end at the first that isn't, so the compiler
-// looks at sixteen at a time.
+// Whether each byte may stand in a text. The loop has no early exit, so the compiler vectorises it: sixteen bytes at a
+// time.
 fn are_plain(bytes: &[u8]) -> bool
     ensures { IsTrue result ↔ AllByRecursion IsPlainByte bytes.now }
 {
@@ -126,7 +128,7 @@ fn are_plain(bytes: &[u8]) -> bool
     plain
 }
 
-// Whether the byte is shown as itself between quotes.
+// Whether the byte may stand in a text without an escape: from the space to `~`, and neither `"` nor `\`.
 fn is_plain(byte: u8) -> bool
     ensures { IsTrue result ↔ IsPlainByte byte }
 {
@@ -142,7 +144,7 @@ pub enum Value {
 }
 
 impl Value {
-    /// The sort of the value.
+    /// The sort to which the value belongs; each value belongs to exactly one.
     pub fn sort(&self) -> Sort
         ensures { result ≡ sort_of self.now }
     {
@@ -153,14 +155,15 @@ impl Value {
         }
     }
 
-    /// Whether the value is of that sort.
+    /// Whether the value is of that sort: what a local type asks of a message.
     pub fn fits(&self, sort: Sort) -> bool
         ensures { result ≡ fits self.now sort }
     {
         self.sort().is(sort)
     }
 
-    /// A copy of the value. Only that of a text allocates.
+    /// A copy that shares nothing with the value. Only a text allocates, at most 256 bytes; it fails only when out of
+    /// memory.
     pub fn copy(&self, alloc: Global) -> Result<Value, AllocError>
         ensures { IfOk result (λ value. value ≡ self.now) }
     {

@@ -24,7 +24,8 @@ impl Model for VarName {
 }
 
 impl VarName {
-    /// Makes a variable's name of these bytes; `None` where they spell no variable.
+    /// Makes a variable's name of these bytes, which are copied without allocating. `None` where they are not 1 to 32
+    /// capital letters, digits and `_` with a letter first.
     pub fn read(bytes: &[u8]) -> Option<VarName>
         ensures some { IsSome result ↔ IsVariable bytes.now }
         ensures name { IfSome result (λ name. name ≡ bytes.now) }
@@ -36,7 +37,7 @@ impl VarName {
         }
     }
 
-    /// The bytes of the name, from the first to the last.
+    /// The bytes of the name: 1 to 32, borrowed. The clause `name` says for callers' proofs that they spell a variable.
     pub fn as_bytes(&self) -> &[u8]
         ensures bytes { result.now ≡ self.now }
         ensures name { IsVariable self.now }
@@ -44,7 +45,7 @@ impl VarName {
         self.0.as_bytes()
     }
 
-    /// Whether both variables are spelled alike.
+    /// Whether both names have the same bytes: `==` on references, with a contract. By it a variable finds its `rec`.
     pub fn is(&self, other: &VarName) -> bool
         ensures { IsTrue result ↔ (self.now ≡ other.now) }
     {
@@ -52,8 +53,8 @@ impl VarName {
     }
 }
 
-// Whether the bytes spell a variable: 1 to 32 of them, a capital letter first, and each one that a variable may
-// contain.
+// Whether the bytes spell a variable: 1 to 32 of them, a capital letter first, and then capital letters, digits and
+// `_`.
 fn is_variable(bytes: &[u8]) -> bool
     ensures { IsTrue result ↔ IsVariable bytes.now }
 {
@@ -65,7 +66,7 @@ fn is_variable(bytes: &[u8]) -> bool
     }
 }
 
-// Whether each of the bytes may stand in a variable: a capital letter, a digit or `_`.
+// Whether each byte is a capital letter, a digit or `_`, in whatever number and order.
 fn has_variable_bytes(bytes: &[u8]) -> bool
     ensures { IsTrue result ↔ AllByRecursion (λ c. IsTrue (is_variable_byte c)) bytes.now }
 {

@@ -14,7 +14,7 @@ use std::alloc::{AllocError, Global};
 /// What tells a caller in C that there was no memory for a text.
 pub const NO_MEMORY: usize = usize::MAX;
 
-// The length of a whole text, or `NO_MEMORY`.
+// The length of a whole text in bytes, or `NO_MEMORY`: an error as a number, as C has no `Result`.
 fn length_or_none(written: Result<usize, AllocError>) -> usize
     ensures { result ≡ length_of written }
 {
@@ -24,7 +24,8 @@ fn length_or_none(written: Result<usize, AllocError>) -> usize
     }
 }
 
-/// Opens a room of a new session of the protocol that the text spells.
+/// Opens a room of a new session of the protocol that the text spells, in a box, since C holds a pointer. The first
+/// fault is returned, and `Memory` only where there is no other.
 pub fn open(alloc: Global, text: &[u8]) -> Result<Box<Embedded>, Fault>
     ensures opened { IfOk result (λ made. IsNewRoomOf text.now made.value) }
     ensures fault { IfErr result (GivesNoSession text.now) }
@@ -36,7 +37,8 @@ pub fn open(alloc: Global, text: &[u8]) -> Result<Box<Embedded>, Fault>
     }
 }
 
-/// Answers the line of the role of that name, and writes of the answer what fits.
+/// Runs the line as a command of the role of that name, copies as much of the answer as fits, and returns the length of
+/// the whole in bytes, or `NO_MEMORY`: then the line was run, and `answer` gives it again.
 pub fn line(room: &mut Embedded, role: &[u8], line: &[u8], out: &mut [u8]) -> usize
     ensures known { (place : ℕ) → slice_get room.old.room.names place ≡ Some role.now
         → IsAnswered room.old place line.now room.new }
@@ -47,7 +49,8 @@ pub fn line(room: &mut Embedded, role: &[u8], line: &[u8], out: &mut [u8]) -> us
     length_or_none(room.answer_into(out))
 }
 
-/// Writes of the newest answer what fits.
+/// Copies as much of the newest answer as fits, and returns the length of the whole in bytes, or `NO_MEMORY`, with
+/// `out` unchanged. The room stays, so it may be asked for again.
 pub fn answer(room: &mut Embedded, out: &mut [u8]) -> usize
     ensures same { room.new ≡ room.old }
     ensures answer { IsFilledOrLeft (λ text. SpellsReply text room.old.reply) out.old out.new result }
@@ -55,7 +58,7 @@ pub fn answer(room: &mut Embedded, out: &mut [u8]) -> usize
     length_or_none(room.answer_into(out))
 }
 
-/// How many entries the journal has.
+/// How many entries the journal has, at most 100,000. The borrow is exclusive, as a `Handle` lends its room so.
 pub fn entries(room: &mut Embedded) -> u64
     ensures same { room.new ≡ room.old }
     ensures count { result ≡ length room.old.room.journal }
@@ -63,7 +66,8 @@ pub fn entries(room: &mut Embedded) -> u64
     room.room().entries()
 }
 
-/// Writes of the k-th entry, from 0, what fits. Past the end the length is 0, and nowhere else.
+/// Copies as much of the k-th entry's line as fits, from 0, and returns the length of the whole in bytes: 0 past the
+/// end, and nowhere else. `NO_MEMORY` leaves `out` unchanged.
 pub fn entry(room: &mut Embedded, k: u64, out: &mut [u8]) -> usize
     ensures same { room.new ≡ room.old }
     ensures line { (entry : Kept) → slice_get room.old.room.journal k ≡ Some entry
@@ -75,5 +79,6 @@ pub fn entry(room: &mut Embedded, k: u64, out: &mut [u8]) -> usize
     length_or_none(room.entry_into(k, out))
 }
 
-/// Lets the room go.
+/// Drops the room, with its session and journal, and frees its memory. Apart from the export, so that only this file
+/// knows what a room is.
 pub fn close(_room: Box<Embedded>) {}

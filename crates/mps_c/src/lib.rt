@@ -32,7 +32,8 @@ impl Handle {
     ghost use types.Logic.{sem};
     ghost use Rattle.mps_c.specs.Lending.{LendsRoom};
 
-    // The room. The handle ends with the last value behind what is lent.
+    // Lends the room behind the pointer. The contract is written by hand, as the code is unsafe: the handle ends with
+    // the last value behind what is lent.
     fn room(&mut self) -> &mut Embedded
         ensures* writes_back { sem 𝓛 (LendsRoom self.entry result) }
         ensures value { result.now ≡ self.old.room }
@@ -41,8 +42,9 @@ impl Handle {
     }
 }
 
-/// Opens a room of a new session of the protocol that the text spells, and puts its pointer into `room`. Where there
-/// is none, the number of the fault and its place are told, and `room` is as it was.
+/// Opens a room of a new session of the protocol that the text spells, and stores its pointer in `room`; `mps_close_at`
+/// has to free it. On `false` the fault's number and place are stored, and `room` stays; on `true` `fault` and `place`
+/// stay.
 #[unsafe(no_mangle)]
 pub extern "C" fn mps_open(
     alloc: Global,
@@ -68,8 +70,9 @@ pub extern "C" fn mps_open(
     }
 }
 
-/// Runs the line as a command of the role of that name, and writes of the answer what fits. Gives the length of the
-/// whole answer, or SIZE_MAX where there was no memory for its text, which can then be asked for again.
+/// Runs the line as a command of the role of that name, and copies as much of the answer as fits. Returns the length of
+/// the whole in bytes, or SIZE_MAX when out of memory: the line was run then, and `mps_answer` gives its answer. All
+/// but the pointer is left to `calls`, which is safe code.
 #[unsafe(no_mangle)]
 pub extern "C" fn mps_line(handle: &mut Handle, role: &[u8], line: &[u8], out: &mut [u8]) -> usize
     ensures known { (place : ℕ) → slice_get handle.old.room.room.names place ≡ Some role.now
@@ -81,7 +84,8 @@ pub extern "C" fn mps_line(handle: &mut Handle, role: &[u8], line: &[u8], out: &
     calls::line(handle.room(), role, line, out)
 }
 
-/// Writes of the newest answer what fits, and gives the length of the whole, or SIZE_MAX.
+/// Copies as much of the newest answer as fits, and returns the length of the whole in bytes, or SIZE_MAX when out of
+/// memory, with `out` unchanged. It may be asked for again.
 #[unsafe(no_mangle)]
 pub extern "C" fn mps_answer(handle: &mut Handle, out: &mut [u8]) -> usize
     ensures same { handle.new.room ≡ handle.old.room }
@@ -90,7 +94,8 @@ pub extern "C" fn mps_answer(handle: &mut Handle, out: &mut [u8]) -> usize
     calls::answer(handle.room(), out)
 }
 
-/// How many entries the journal has.
+/// How many entries the journal has, at most 100,000: one for each accepted change. They have the places 0 to this
+/// number less 1 for `mps_entry`.
 #[unsafe(no_mangle)]
 pub extern "C" fn mps_entries(handle: &mut Handle) -> u64
     ensures same { handle.new.room ≡ handle.old.room }
@@ -99,8 +104,8 @@ pub extern "C" fn mps_entries(handle: &mut Handle) -> u64
     calls::entries(handle.room())
 }
 
-/// Writes of the k-th entry, from 0, as a script's line what fits, and gives the length of the whole, or SIZE_MAX.
-/// Past the end that is 0, and nowhere else.
+/// Copies as much of the k-th entry, from 0, as a script's line as fits, and returns the length of the whole in bytes,
+/// or SIZE_MAX when out of memory, with `out` unchanged. Past the end it is 0, and nowhere else.
 #[unsafe(no_mangle)]
 pub extern "C" fn mps_entry(handle: &mut Handle, k: u64, out: &mut [u8]) -> usize
     ensures same { handle.new.room ≡ handle.old.room }
@@ -113,7 +118,8 @@ pub extern "C" fn mps_entry(handle: &mut Handle, k: u64, out: &mut [u8]) -> usiz
     calls::entry(handle.room(), k, out)
 }
 
-/// Lets the room go. No call may come after it.
+/// Drops the room at this pointer, which `mps_open` stored, and frees its memory. Unsafe: the pointer has to own a
+/// room, and no call may come with it afterwards.
 #[unsafe(no_mangle)]
 pub unsafe extern "C" fn mps_close_at(alloc: Global, room: *mut u8)
     ghost before: { RoomValue }

@@ -58,7 +58,8 @@ impl Model for Deal {
 }
 
 impl Deal {
-    // The seat and the numbered commands by themselves.
+    // Takes the deal apart for `passes_of`: the seat that all passes are split from, and each role's numbers. The
+    // fields are private to the module, so the deal can't be made anew.
     fn into_parts(self) -> (Seat<Room, SeatView>, Vec<Numbers>)
         ensures cell { result.0.table_id ≡ self.cell }
         ensures seat { result.0.me ≡ (self.view, []) }
@@ -111,7 +112,8 @@ impl Cell {
     ghost use Rattle.mps_cell.specs.Openings.{opening_of};
     ghost use Rattle.mps_cell.specs.declared.cell.PassFault.TheVariants.{Given};
 
-    /// A cell with a room of this session, in which nothing was done yet. The number of its session is 0.
+    /// A cell with a room of this session, before its first step. The session's number, for those that have several, is
+    /// 0. It fails only when out of memory.
     pub fn open(alloc: Global, names: Roles, session: Session) -> Result<Cell, AllocError>
         requires count { length names ≡ length session.types }
         requires fresh { session.state ≡ initial }
@@ -121,7 +123,8 @@ impl Cell {
         Cell::open_numbered(alloc, names, session, 0)
     }
 
-    /// The same with a number, by which the passes of the session are told from those of others.
+    /// `open` for a server of several sessions: the number tells the passes of this session from those of others. It
+    /// fails only when out of memory.
     pub fn open_numbered(
         alloc: Global,
         names: Roles,
@@ -138,8 +141,8 @@ impl Cell {
         Cell::open_with(alloc, room, numbers, number)
     }
 
-    /// A cell around this room, of whose roles, in order, these are the newest numbered commands that were accepted. The
-    /// passes begin with the journal that the room has. Where memory runs out the room is dropped.
+    /// A cell around a room that may have a journal already, as a restored one; `numbers` are the newest accepted
+    /// numbered commands of its roles, in order. It fails only when out of memory, and drops the room.
     pub fn open_with(
         alloc: Global,
         room: Room,
@@ -172,8 +175,8 @@ impl Cell {
         }
     }
 
-    /// The right to the passes, once in the cell's life. `passes_of` gives them for it, and the cell stays known
-    /// beside.
+    /// Takes the right to make the passes, once in the cell's life; later calls get `None`. Apart from `passes_of`,
+    /// which borrows the cell for as long as the passes live.
     pub fn deal(&mut self) -> Option<Deal>
         ensures cell { self.new.cell ≡ self.old.cell }
         ensures opening { self.new.opening ≡ self.old.opening }
@@ -184,7 +187,8 @@ impl Cell {
         self.deal.take()
     }
 
-    /// One pass for each role, in order.
+    /// One pass for each role, in order; they borrow the cell. It fails only when out of memory, and then the deal is
+    /// used up.
     #[tactic(auto, using(crate::proofs::Dealing::all_fresh))]
     pub fn passes_of(&self, deal: Deal) -> Result<Vec<Pass<'_>>, AllocError>
         requires deal { IsDealOf self.now.cell self.now.opening deal }
@@ -205,8 +209,8 @@ impl Cell {
         ))
     }
 
-    /// Both in one: a pass for each role, in order, once in the cell's life. Where it reports out of memory none was
-    /// handed out, and later calls are told that the passes were given.
+    /// `deal` and `passes_of` in one: one pass for each role, in order, once in the cell's life. After `Memory` there
+    /// are no passes, and later calls are `Given`.
     pub fn passes(&mut self) -> Result<Vec<Pass<'_>>, PassFault>
         ensures given { IsErrOf result Given ↔ (self.old.given ≡ true) }
         ensures passes { IfOk result (λ v. v.items
@@ -221,7 +225,8 @@ impl Cell {
         Ok(all)
     }
 
-    /// The room, if it is at home.
+    /// Ends the cell, and returns its room, or `None` where a call never gave it back. No pass is left then, as each
+    /// borrows the cell.
     pub fn close(self) -> Option<Room>
         ensures room { IfSome result (Closes self.opening) }
     {
@@ -240,7 +245,7 @@ impl Cell {
         if word % 2 == 0 { Some(room) } else { None }
     }
 
-    /// The room, if it is at home, with all that this pass saw and made.
+    /// `close` with what one pass left with: then the contract tells that the room has all that this pass saw and made.
     pub fn close_with(self, leave: Leave) -> Option<Room>
         requires cell { leave.cell ≡ self.cell }
         ensures room { IfSome result (Closes self.opening) }
@@ -262,7 +267,8 @@ impl Cell {
     }
 }
 
-// A pass for each role, with its numbers. Each takes the part of its role from the first seat.
+// Makes a pass for each role with its numbers, in the order of the roles; each takes its role's part of the first seat.
+// `all` has space for them, so it can't fail.
 fn hand_out<'a>(
     shared: &'a SharedTable,
     waiting: &'a AtomicU64,

@@ -33,22 +33,28 @@ impl<'r, 'a, R: Wait> Caller for Held<'r, 'a, R> {
 
     ghost may_tell = { λ _. true };
 
+    // The names of the session's roles, 2 to 8, in order, which the pass borrows from its cell.
     fn roles(&self) -> &Roles {
         self.pass.names()
     }
 
+    // Calls the room by the pass, and waits for its turn; no clause says that it comes.
     fn call(&mut self, command: Command) -> Answer {
         self.pass.call(self.rt, command)
     }
 
+    // The number of the pass's newest accepted numbered command, 0 before the first.
     fn last(&self) -> u64 {
         self.pass.numbers().last()
     }
 
+    // The answer to the pass's newest accepted numbered command, or `None` before the first.
     fn kept(&self) -> Option<&Answer> {
         self.pass.numbers().kept()
     }
 
+    // Calls the room by the pass, waits for its turn, and stores an accepted answer under the number. A refusal changes
+    // nothing, so the number may come again.
     fn call_next(&mut self, number: u64, command: Command) -> Result<(), Refusal> {
         match self.pass.call(self.rt, command) {
             Answer::Refused(refusal) => Err(refusal),
@@ -59,6 +65,7 @@ impl<'r, 'a, R: Wait> Caller for Held<'r, 'a, R> {
         }
     }
 
+    // Always: nothing is recorded outside the room, so no record is lost.
     fn may_tell(&self) -> bool {
         true
     }

@@ -12,15 +12,16 @@ ghost use Rattle.mps_cell.specs.Calls.{Known, Calls};
 ghost use Rattle.mps_cell.specs.contracts.pass.Pass as pass;
 ghost use Rattle.mps_cell.specs.contracts.pass.Leave as leave;
 
-/// Where the opening types are those of one protocol without faults, no call of a pass is answered that its role's type
-/// doesn't fit what was sent to it.
+/// A law: where the opening types are those of one protocol without faults, no call of a pass is refused with
+/// `Mismatch`, whatever other passes did.
 pub fn no_call_is_a_mismatch()
     ensures other { (before : Known) (command : Command) (answer : Answer) (after : Known)
         → AreOfOneProtocol before.opening.types → Calls before command answer after
         → answer ≢ Refused (Violates Mismatch) }
 {}
 
-/// A pass may go to another thread, and so may what it leaves with.
+/// A law: a pass may go to another thread, and so may what it leaves with. The body is empty: the bounds of the clauses
+/// are checked.
 pub fn passes_may_cross_threads()
     ensures pass { (κ : NamedLft) → IsSend (pass.the_row κ) }
     ensures leave { IsSend leave.the_row }

@@ -8,7 +8,8 @@ use crate::view::SeatView;
 use atomic_table::Seat;
 use mps_room::Room;
 
-// The first seat has both parts for one look, and then the second has its own back.
+// Lets two seats learn from each other: the second's knowledge is joined to the first's, one atomic load relates both
+// to the room's journal, and then it is split again. Both go on as before. It never waits.
 pub(crate) fn meet_seats(
     shared: &SharedTable,
     first: &mut Seat<Room, SeatView>,

@@ -55,6 +55,7 @@ impl<'a> Model for Pass<'a> {
 
 /// Something that runs while the room is out: tests give one, to hold a call up.
 pub trait Pause {
+    // What runs between taking the room and answering in it.
     fn pause(&mut self);
 }
 
@@ -63,6 +64,7 @@ pub trait Pause {
 pub struct Straight;
 
 impl Pause for Straight {
+    // Does nothing: the pause of `call`.
     fn pause(&mut self) {}
 }
 
@@ -96,7 +98,7 @@ impl Model for Leave {
 }
 
 impl Leave {
-    // The seat by itself.
+    // Takes the seat out for `close_with`, which joins what it knows.
     pub(crate) fn into_seat(self) -> Seat<Room, SeatView>
         ensures free { IsResting result.me }
         ensures known { self ≡ known result.table_id result.me.0 }
@@ -107,8 +109,8 @@ impl Leave {
 }
 
 impl<'a> Pass<'a> {
-    // The pass of a role that rests on this seat, as it is dealt: it has seen the entries that the cell began with, and
-    // has the numbers that its role had by then.
+    // The pass of a role on this seat, as it is dealt: it has seen the entries that the cell began with, and has the
+    // numbers that its role had by then.
     pub(crate) fn fresh(
         shared: &'a SharedTable,
         waiting: &'a AtomicU64,
@@ -138,7 +140,8 @@ impl<'a> Pass<'a> {
         }
     }
 
-    /// Calls the room for the role, and is answered. It waits for its turn, and no clause says that the turn comes.
+    /// Calls the room for the role, and returns the answer: `call_with` without a pause. It waits while another pass
+    /// has the room: it looks 100 times, then sleeps. No clause says that its turn comes (no fairness).
     pub fn call<R: Wait>(&mut self, rt: &R, command: Command) -> Answer
         ensures call { Calls self.old command result self.new }
         ensures numbers { self.new.newest ≡ self.old.newest }
@@ -146,7 +149,7 @@ impl<'a> Pass<'a> {
         self.call_with(rt, command, &mut Straight)
     }
 
-    /// The same, with a pause between taking the room and answering in it.
+    /// `call` with a pause between taking the room and answering in it: for tests that hold a call up.
     pub fn call_with<R: Wait, P: Pause>(
         &mut self,
         rt: &R,
@@ -168,7 +171,8 @@ impl<'a> Pass<'a> {
         )
     }
 
-    /// Calls the room if it is at home. It takes one look and one try, and never waits.
+    /// Calls the room if no other pass has it, and never waits. `Busy` where another has it, or another call came
+    /// between the look and the try; nothing changes then.
     pub fn try_call(&mut self, command: Command) -> Result<Answer, Busy>
         ensures call { IfOk result (λ answer. Calls self.old command answer self.new) }
         ensures numbers { OnOk result (self.new.newest ≡ self.old.newest) }
@@ -189,7 +193,7 @@ impl<'a> Pass<'a> {
         ))
     }
 
-    /// How many entries the journal has by now. It never waits, and does not allocate.
+    /// How many entries the journal has by now: one atomic load. It never waits, and does not allocate.
     pub fn front(&mut self) -> u64
         ensures told { LearnsLength self.old result self.new }
     {
@@ -197,42 +201,45 @@ impl<'a> Pass<'a> {
         word / 2
     }
 
-    /// How many entries the journal had that the last call showed.
+    /// How many entries the journal had after this pass's last call; at first those that the cell began with.
     pub fn seen(&self) -> u64
         ensures seen { result ≡ length self.now.seen }
     {
         self.seen
     }
 
-    /// The role that it calls for.
+    /// The role for which this pass calls; a cell deals one pass for each.
     pub fn role(&self) -> Role
         ensures role { result ≡ self.now.role }
     {
         self.role
     }
 
-    /// The names of the roles.
+    /// The names of the session's roles, 2 to 8, in order, which the pass borrows from its cell.
     pub fn names(&self) -> &Roles
         ensures names { result.now ≡ self.now.opening.names }
     {
         self.names
     }
 
-    /// The newest of its numbered commands that was accepted.
+    /// The newest of the pass's accepted numbered commands, with its answer, by which a command that is sent again is
+    /// answered.
     pub fn numbers(&self) -> &Numbers
         ensures numbers { result.now.newest ≡ self.now.newest }
     {
         &self.numbers
     }
 
-    // Keeps the answer to a numbered command under its number.
+    // Stores the answer to a numbered command under its number, and drops the one before it. For `Held`, whose callers
+    // have checked the number.
     pub(crate) fn keep(&mut self, number: u64, answer: Answer)
         ensures keep { self.new ≡ carried self.old (Some (record { number = number; answer = answer })) }
     {
         self.numbers.keep(number, answer);
     }
 
-    /// What the pass knows, without the borrow of its cell. Its numbered command is dropped.
+    /// Gives up the pass, and returns what it knows without the borrow of its cell, for `close_with`. Its numbered
+    /// command is dropped.
     pub fn leave(self) -> Leave
         ensures known { result ≡ carried self.entry None }
     {
@@ -249,8 +256,8 @@ impl<'a> Pass<'a> {
     }
 }
 
-/// Compares what two passes of one cell have seen. What the one has seen begins what the other has. It never waits,
-/// and does not allocate.
+/// Compares how many entries two passes of one cell have seen. The journal that the one saw is a prefix of what the
+/// other saw. It never waits, and does not allocate.
 pub fn meet(first: &mut Pass<'_>, second: &mut Pass<'_>) -> Ordering
     requires cell { second.old.cell ≡ first.old.cell }
     ensures first { KeepsSeen first.old first.new }

@@ -17,10 +17,11 @@ use std::sync::atomic::AtomicU64;
 use std::sync::atomic::Ordering::SeqCst;
 use std::thread::yield_now;
 
-// How often a pass looks whether the room is back, and lets other threads run between, before it sleeps.
+// How often a pass looks whether the room is back, and yields to other threads, before it sleeps.
 const LOOKS: u32 = 100;
 
-// One look and one try. It tells the journal's length that the word showed, and whether the room was taken.
+// One atomic load and, where the room is there, one compare-and-exchange, which takes it. Returned are the journal's
+// length that the word showed, and whether the room was taken. It never waits.
 pub(crate) fn try_take(shared: &SharedTable, seat: &mut Seat<Room, SeatView>) -> (u64, bool)
     requires cell { seat.old.table_id ≡ shared.now.table_id }
     requires word { shared.now.table_id.words ≡ 1 }
@@ -37,7 +38,8 @@ pub(crate) fn try_take(shared: &SharedTable, seat: &mut Seat<Room, SeatView>) ->
     (again / 2, again == found)
 }
 
-// Takes the room, and sleeps while it is out.
+// Takes the room, and waits while another pass has it. The first try stands here, the waiting apart, so that the usual
+// call is short.
 #[inline(never)]
 pub(crate) fn take<R: Wait>(
     rt: &R,
@@ -56,7 +58,8 @@ pub(crate) fn take<R: Wait>(
     }
 }
 
-// The same, where the room was out: it looks again for a while, and then sleeps.
+// The waiting of `take`: it looks again for a while, and then sleeps until a pass gives the room back. No clause says
+// that its turn comes.
 #[inline(never)]
 fn take_later<R: Wait>(
     rt: &R,
@@ -90,7 +93,8 @@ fn take_later<R: Wait>(
     unreachable!()
 }
 
-// The same as `try_take`, once the room is back or a while has gone by.
+// `try_take` once the room is back, or after 100 looks with a yield after each: most calls are shorter than going to
+// sleep.
 fn try_take_soon(shared: &SharedTable, seat: &mut Seat<Room, SeatView>) -> (u64, bool)
     requires cell { seat.old.table_id ≡ shared.now.table_id }
     requires word { shared.now.table_id.words ≡ 1 }
@@ -108,7 +112,8 @@ fn try_take_soon(shared: &SharedTable, seat: &mut Seat<Room, SeatView>) -> (u64,
     try_take(shared, seat)
 }
 
-// Answers the role's command in the room that was taken, and gives the room back. `seen` is the journal's length then.
+// Answers the role's command in the room that was taken, and gives the room back. `seen` becomes the journal's length.
+// For `call` and `try_call` alike.
 pub(crate) fn finish(
     shared: &SharedTable,
     waiting: &AtomicU64,
@@ -136,7 +141,8 @@ pub(crate) fn finish(
     answer
 }
 
-// Gives the room back with a journal of so many entries, and wakes a pass that may sleep.
+// Gives the room back: stores the journal's length in the word, and wakes one pass where the flag says that some may
+// sleep. The order of the three is what keeps a sleeper from being missed.
 #[inline(never)]
 fn give_back(
     shared: &SharedTable,
@@ -161,7 +167,7 @@ fn give_back(
     }
 }
 
-// Answers the command. `seen` is the journal's length then, and the room is still the seat's.
+// Answers the command in the room, which stays the seat's. `seen` becomes the journal's length.
 fn answer_in(
     shared: &SharedTable,
     seat: &mut Seat<Room, SeatView>,

@@ -51,7 +51,7 @@ pub enum Refusal {
 impl From<AllocError> for Refusal {
     ghost from_gives = { λ _ e. e ≡ OutOfMemory };
 
-    // A failed allocation is `Memory`.
+    // Lets `?` turn a failed allocation into `Memory`.
     fn from(_e: AllocError) -> Refusal {
         Refusal::Memory
     }
@@ -60,7 +60,7 @@ impl From<AllocError> for Refusal {
 impl<T: Drop> From<AllocFailed<T>> for Refusal {
     ghost from_gives = { λ _ e. e ≡ OutOfMemory };
 
-    // A failed allocation is `Memory`; what it gives back is dropped.
+    // Lets `?` turn a failed allocation into `Memory`; what the allocation gives back is dropped.
     fn from(_e: AllocFailed<T>) -> Refusal {
         Refusal::Memory
     }
@@ -74,7 +74,8 @@ pub struct Done {
 }
 
 impl Done {
-    /// A copy of the answer. Only that of a text allocates.
+    /// A copy that shares nothing with the answer. Only a text that was received allocates; it fails only when out of
+    /// memory.
     pub fn copy(&self, alloc: Global) -> Result<Done, AllocError>
         ensures { IfOk result (λ done. done ≡ self.now) }
     {
@@ -102,7 +103,8 @@ pub enum Answer {
 }
 
 impl Answer {
-    /// A copy of the answer. A text, a shown session and a list of numbers may allocate.
+    /// A copy that shares nothing with the answer. Received texts, shown sessions and lists of several numbers
+    /// allocate; it fails only when out of memory.
     pub fn copy(&self, alloc: Global) -> Result<Answer, AllocError>
         ensures { IfOk result (λ answer. answer ≡ self.now) }
     {

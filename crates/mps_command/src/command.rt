@@ -22,7 +22,7 @@ pub enum Forward {
 }
 
 impl Forward {
-    /// A copy of the step. Only that of a send of a text allocates.
+    /// A copy that shares nothing with the step. Only a send of a text allocates; it fails only when out of memory.
     pub fn copy(&self, alloc: Global) -> Result<Forward, AllocError>
         ensures { IfOk result (λ command. command ≡ self.now) }
     {
@@ -60,7 +60,7 @@ pub enum Change {
 }
 
 impl Change {
-    /// A copy of the change. Only that of a send of a text allocates.
+    /// A copy that shares nothing with the change. Only a send of a text allocates; it fails only when out of memory.
     pub fn copy(&self, alloc: Global) -> Result<Change, AllocError>
         ensures { IfOk result (λ change. change ≡ self.now) }
     {
@@ -91,7 +91,7 @@ pub enum Command {
 }
 
 impl Command {
-    /// A copy of the command. Only that of a send of a text allocates.
+    /// A copy that shares nothing with the command. Only a send of a text allocates; it fails only when out of memory.
     pub fn copy(&self, alloc: Global) -> Result<Command, AllocError>
         ensures { IfOk result (λ command. command ≡ self.now) }
     {

@@ -25,7 +25,7 @@ impl Model for ShownText {
 
 impl ShownText {
     /// Makes a shown text of these bytes, which are kept and not copied. They have to begin with a brace and be
-    /// printable.
+    /// printable ASCII; the caller proves that, so nothing is tested here.
     pub fn of(bytes: Vec<u8>) -> ShownText
         requires { IsShownText bytes.items }
         ensures { result ≡ bytes.items }
@@ -33,7 +33,7 @@ impl ShownText {
         ShownText { bytes }
     }
 
-    /// The bytes of the text, from the first to the last.
+    /// The bytes of the text, at least the brace and no line break; they are borrowed.
     pub fn as_bytes(&self) -> &[u8]
         ensures bytes { result.now ≡ self.now }
         ensures shown { IsShownText self.now }
@@ -41,7 +41,7 @@ impl ShownText {
         self.bytes.as_slice()
     }
 
-    /// A copy of the text, in memory of its own.
+    /// A copy of the text, in memory of its own, O(bytes). It fails only when out of memory.
     pub fn copy(&self, alloc: Global) -> Result<ShownText, AllocError>
         ensures { IfOk result (λ text. text ≡ self.now) }
     {

@@ -30,7 +30,7 @@ impl Model for StepIds {
 }
 
 impl StepIds {
-    /// The list of these numbers, which are kept and not copied.
+    /// The list of these numbers in their order; the vector is kept and not copied.
     pub fn of(ids: Vec<StepId>) -> StepIds
         ensures { result ≡ ids.items }
     {
@@ -39,7 +39,7 @@ impl StepIds {
         }
     }
 
-    /// The list of this number alone. It does not allocate.
+    /// The list of this number alone. It does not allocate, so a step can be undone when out of memory.
     pub fn one(id: StepId) -> StepIds
         ensures { result ≡ id ∷ [] }
     {
@@ -48,7 +48,7 @@ impl StepIds {
         }
     }
 
-    /// The numbers, from the first to the last.
+    /// The numbers in order, borrowed: one slice, however they are stored.
     pub fn as_slice(&self) -> &[StepId]
         ensures { result.now ≡ self.now }
     {
@@ -58,8 +58,8 @@ impl StepIds {
         }
     }
 
-    /// The vector of these numbers, or the number that is kept without one, as `Rc::try_unwrap` gives back what it
-    /// can't take apart. It does not allocate.
+    /// The vector, or as the error the one number that is stored without a vector: a caller that needs a vector for it
+    /// decides about memory itself. It does not allocate.
     pub fn try_into_vec(self) -> Result<Vec<StepId>, StepId>
         ensures { MatchResult result (λ ids. ids.items ≡ self) (λ id. self ≡ id ∷ []) }
     {
@@ -70,7 +70,7 @@ impl StepIds {
         }
     }
 
-    /// A copy of the list. That of a list made by `one` does not allocate.
+    /// A copy of the list, O(numbers). A list made by `one` does not allocate; it fails only when out of memory.
     pub fn copy(&self, alloc: Global) -> Result<StepIds, AllocError>
         ensures { IfOk result (λ ids. ids ≡ self.now) }
     {

@@ -40,8 +40,8 @@ impl Model for Pieces {
 }
 
 impl Pieces {
-    /// A source that gives `pieces`. Its calls fail from the call `fails_from` on, counted from 1, or never where that
-    /// is `None`. It does not allocate.
+    /// A source for tests that gives `pieces` in order. Its calls fail from the call `fails_from` on, counted from 1,
+    /// or never where that is `None`. The pieces are kept, not copied, so it does not allocate.
     pub fn new(pieces: Vec<Vec<u8>>, fails_from: Option<u64>) -> Self
         ensures script { result ≡ record {
           pieces = non_empty (map vec_items pieces.items);
@@ -75,8 +75,8 @@ impl Source for Pieces {
 
     ghost fewer_failed = { λ s. Prim.omega arith };
 
-    // Reads what is left of the next piece that has bytes, as far as there is room. A call that fails takes no byte.
-    // Each call is counted once: as a failure, as an end, or as answered.
+    // Copies bytes of the next piece that isn't empty, as many as `buf` has room for. A call that fails leaves the
+    // pieces and `buf` unchanged. Each call adds 1 to one of the three counts: failed, ended or answered.
     fn read(&mut self, buf: &mut [u8]) -> Result<usize, Failed>
         requires { calls_of self.old < 2 ^ 63 }
         ensures within { ReadsAtMost result buf.new }
@@ -120,8 +120,8 @@ impl Source for Pieces {
     }
 }
 
-// Where the next byte to give stands, from the byte `given` of the piece `next` on: its piece, and its place there.
-// Where none is left, the piece is one past the last.
+// Skips pieces that are used up or empty: gives the piece of the next byte, and the byte's place in it, from the byte
+// `given` of the piece `next` on. Where no byte is left, the piece is one past the last. O(pieces skipped).
 fn first_left(pieces: &[Vec<u8>], mut next: usize, mut given: usize) -> (usize, usize)
     ensures same { left_from result.0 result.1 (map vec_items pieces.now)
         ≡ left_from next given (map vec_items pieces.now) }
@@ -135,7 +135,8 @@ fn first_left(pieces: &[Vec<u8>], mut next: usize, mut given: usize) -> (usize, 
     (next, given)
 }
 
-// Copies the front of `from` over the front of `to`, as many bytes as both have, and says how many.
+// Copies the front of `from` over the front of `to`, as many bytes as both have, and returns that number. The rest of
+// `to` is unchanged. Apart from `read`, since slices are copied only between equal lengths.
 fn copy_front(from: &[u8], to: &mut [u8]) -> usize
     ensures count { result ≡ min (length from.now) (length to.old) }
     ensures copied { to.new ≡ take result from.now ++ drop result to.old }
@@ -169,7 +170,8 @@ impl Model for Short {
 }
 
 impl Short {
-    /// A sink that takes `room` bytes in all, and has taken none. Memory for them is allocated here, and none later.
+    /// A sink for tests that takes `room` bytes in all, and has taken none. All memory is allocated here, O(room), and
+    /// none by a write. It fails only when out of memory.
     pub fn new(alloc: Global, room: usize) -> Result<Self, AllocError>
         ensures { IfOk result (λ s. s ≡ record { bytes = []; room = room; failed_calls = 0 }) }
     {
@@ -180,7 +182,7 @@ impl Short {
         })
     }
 
-    /// The bytes that the sink took so far, in order.
+    /// The bytes that were taken so far, oldest first, at most `room`. They are borrowed, not copied.
     pub fn bytes(&self) -> &[u8]
         ensures { result.now ≡ self.now.bytes }
     {
@@ -193,7 +195,8 @@ impl Sink for Short {
 
     ghost failed_calls = { λ s. s.failed_calls };
 
-    // Takes as many of the bytes as there is room for. It fails only where some bytes come and no room is left.
+    // Takes as many bytes as there is room for, which may be fewer than come. It fails only where bytes come and no
+    // room is left; then the bytes taken stay as they were, and the failure is counted.
     fn write(&mut self, bytes: &[u8]) -> Result<usize, Failed>
         requires { self.old.failed_calls < 2 ^ 63 }
         ensures within { WritesAtMost result bytes.now }
@@ -229,7 +232,7 @@ impl Sink for Discard {
 
     ghost failed_calls = { λ _. 0 };
 
-    // Takes all of the bytes, and keeps none.
+    // Takes all of the bytes and stores none, as /dev/null does: for callers that only count what is written.
     fn write(&mut self, bytes: &[u8]) -> Result<usize, Failed>
         ensures within { WritesAtMost result bytes.now }
         ensures progress { TakesSome result bytes.now }

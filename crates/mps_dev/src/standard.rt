@@ -17,7 +17,7 @@ pub struct OverRead<R> {
 impl<R> OverRead<R> {
     ghost use Rattle.mps_dev.specs.Standard.{reader_of, calls_of, failed_reads_of, ends_of};
 
-    /// A source over this reader, which starts with each count at 0.
+    /// A source over this reader, with each count at 0. Nothing is read or allocated yet.
     pub fn new(inner: R) -> Self
         ensures reader { reader_of result ≡ inner }
         ensures calls { calls_of result ≡ 0 }
@@ -32,7 +32,7 @@ impl<R> OverRead<R> {
         }
     }
 
-    /// Takes the reader out again, as the last read left it. The counts are dropped.
+    /// Gives the reader back, as the last read left it. The counts are dropped.
     pub fn into_inner(self) -> R
         ensures { result ≡ reader_of self }
     {
@@ -54,7 +54,8 @@ impl<R: Read> Source for OverRead<R> {
 
     ghost fewer_failed = { λ s. s.fewer_failed };
 
-    // One read of the reader, also after an end or a failure. To read nothing into an empty `buf` is no end.
+    // One read of the reader, also after an end or a failure. Only `Ok(0)` with room in `buf` counts as an end. On an
+    // error the kind is dropped, and nothing is promised of what `buf` has.
     fn read(&mut self, buf: &mut [u8]) -> Result<usize, Failed> {
         self.calls += 1;
         match self.inner.read(buf) {
@@ -84,7 +85,7 @@ pub struct OverWrite<W> {
 impl<W> OverWrite<W> {
     ghost use Rattle.mps_dev.specs.Standard.{writer_of, failed_writes_of};
 
-    /// A sink over this writer, which starts with no failure counted.
+    /// A sink over this writer, with the count of failures at 0. Nothing is written or allocated yet.
     pub fn new(inner: W) -> Self
         ensures writer { writer_of result ≡ inner }
         ensures failures { failed_writes_of result ≡ 0 }
@@ -95,7 +96,7 @@ impl<W> OverWrite<W> {
         }
     }
 
-    /// Takes the writer out again, as the last write left it, unflushed. The count is dropped.
+    /// Gives the writer back, as the last write left it, unflushed. The count of failures is dropped.
     pub fn into_inner(self) -> W
         ensures { result ≡ writer_of self }
     {
@@ -111,8 +112,8 @@ impl<W: Write> Sink for OverWrite<W> {
 
     ghost failed_calls = { failed_writes_of };
 
-    // One write to the writer, also after a failure. An `Ok(0)` for some bytes is a failure, so loops over writes make
-    // progress.
+    // One write to the writer, also after a failure. `Ok(0)` for some bytes is a failure, so loops over writes make
+    // progress. The kind of an error is dropped; only the failure is counted.
     fn write(&mut self, bytes: &[u8]) -> Result<usize, Failed> {
         match self.inner.write(bytes) {
             Ok(n) if n > 0 || bytes.is_empty() => Ok(n),

@@ -24,8 +24,8 @@ pub trait Source {
     // How many of them ended: they answered that nothing is left, though there was room for it.
     ghost ends: { Self → ℕ };
 
-    /// Reads some bytes into the front of `buf`, and says how many. `Ok(0)` with room in `buf` is the end. A failed
-    /// read loses no byte, as far as they are known; nothing is promised of what `buf` has then.
+    /// Reads some bytes into the front of `buf`, and returns how many. `Ok(0)` with room in `buf` is the end. After
+    /// `Failed` no byte is lost, as far as the bytes are known; nothing is promised of what `buf` has then.
     fn read(&mut self, buf: &mut [u8]) -> Result<usize, Failed>
         requires { calls self.old < 2 ^ 63 }
         ensures within { ReadsAtMost result buf.new }
@@ -46,8 +46,8 @@ pub trait Sink {
     // How many calls of `write` failed.
     ghost failed_calls: { Self → ℕ };
 
-    /// Takes some bytes from the front of `bytes`, and says how many; to take none of some is a failure. A failed write
-    /// takes none, as far as what was taken is known.
+    /// Takes some bytes from the front of `bytes`, and returns how many, which may be fewer than all. To take none of
+    /// some is `Failed`. After `Failed` none was taken, as far as what was taken is known.
     fn write(&mut self, bytes: &[u8]) -> Result<usize, Failed>
         requires { failed_calls self.old < 2 ^ 63 }
         ensures within { WritesAtMost result bytes.now }

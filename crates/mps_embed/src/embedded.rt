@@ -52,7 +52,8 @@ impl Model for Embedded {
     ghost invariant = { λ e. length e.numbers ≡ 8 };
 }
 
-// Makes the role the one that speaks, and puts the numbers of the one before it back to their place.
+// Makes this role the one that speaks: its numbers are swapped into `solo`, and those of the role before back into the
+// array. So one caller serves all roles without copies. O(1); it does not allocate.
 fn turn_to(solo: &mut Solo, numbers: &mut [Numbers; 8], role: Role)
     requires known { role < length solo.old.room.types }
     requires few { length solo.old.room.types ≤ 8 }
@@ -70,14 +71,14 @@ fn turn_to(solo: &mut Solo, numbers: &mut [Numbers; 8], role: Role)
     mem::swap(&mut solo.numbers, &mut numbers[role.index()]);
 }
 
-// Puts an outcome in place of the one before it, which is dropped.
-fn put(outcome: &mut Outcome, newest: Outcome)
+// Replaces the newest outcome, and drops the one before it. Apart, so that the drop has a contract of its own.
+fn replace_outcome(outcome: &mut Outcome, newest: Outcome)
     ensures { outcome.new ≡ newest }
 {
     *outcome = newest;
 }
 
-// The numbers of 8 roles, none of which had a command with a number accepted.
+// The numbers of 8 roles before any numbered command is accepted. It does not allocate.
 fn no_numbers() -> [Numbers; 8]
     ensures count { length result ≡ 8 }
     ensures none { All (λ n. n.newest ≡ None) result }
@@ -95,8 +96,8 @@ fn no_numbers() -> [Numbers; 8]
 }
 
 impl Embedded {
-    /// A room of a new session of the protocol that the text spells. Before the first line the answer is
-    /// `refused norole`.
+    /// A room of a new session of the protocol that the text spells; before the first line its answer is `refused
+    /// norole`. The first fault of text or protocol is returned, and `Memory` only where there is no other.
     pub fn open(alloc: Global, text: &[u8]) -> Result<Embedded, Fault>
         ensures opened { IfOk result (IsNewRoomOf text.now) }
         ensures fault { IfErr result (GivesNoSession text.now) }
@@ -113,7 +114,7 @@ impl Embedded {
         })
     }
 
-    // Runs the line as a command of the role, and keeps what is to be answered.
+    // Runs the line as a command of the role, and stores the outcome. `line` has looked the role up.
     fn run(&mut self, role: Role, line: &[u8])
         requires known { role < length self.old.room.types }
         requires few { length self.old.room.types ≤ 8 }
@@ -121,11 +122,12 @@ impl Embedded {
     {
         turn_to(&mut self.solo, &mut self.numbers, role);
         let outcome = take_line(self.alloc, &mut self.solo, line);
-        put(&mut self.outcome, outcome);
+        replace_outcome(&mut self.outcome, outcome);
     }
 
-    /// Runs the line as a command of the role of that name. The answer is there from then on, until the next line. Of a
-    /// name that is no role's it is `refused norole`, and nothing is run.
+    /// Runs the line, at most 512 bytes, as a command of the role of that name; its answer is there until the next
+    /// line. Where no role has the name the answer is `refused norole`, and nothing is run. It can't fail: out of
+    /// memory is an answer too.
     pub fn line(&mut self, role: &[u8], line: &[u8])
         ensures known { (place : ℕ) → slice_get self.old.room.names place ≡ Some role.now
             → IsAnswered self.old place line.now self.new }
@@ -136,12 +138,12 @@ impl Embedded {
         let _few = names.count();
         match names.find_spelled(role) {
             Some(place) => self.run(place, line),
-            None => put(&mut self.outcome, Outcome::Reply(Reply::NoRole)),
+            None => replace_outcome(&mut self.outcome, Outcome::Reply(Reply::NoRole)),
         }
     }
 
-    /// Writes the answer to the newest line at the end of `out`, without a line break. It may be asked for as often as
-    /// wanted, so it isn't lost where memory runs out, though a part of it may stand there then.
+    /// Appends the answer to the newest line, without a line break; it may be asked for again. Out of memory is the
+    /// only error: a part may stand in `out` then, and the answer isn't lost.
     pub fn write_answer(&self, out: &mut Vec<u8>) -> Result<(), AllocError>
         ensures ok { OnOk result (AppendsSuch (λ text. SpellsReply text self.now.reply) out.old.items out.new.items) }
         ensures err { OnErr result (StartsWith out.new.items out.old.items) }
@@ -149,7 +151,7 @@ impl Embedded {
         write_outcome(&self.solo, &self.outcome, out)
     }
 
-    /// The room, as the lines so far have left it.
+    /// The room, to read, as the lines so far have left it.
     pub fn room(&self) -> &Room
         ensures { result.now ≡ self.now.room }
     {

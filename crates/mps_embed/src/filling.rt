@@ -12,7 +12,8 @@ use mps_wire::laws::each_entry_can_be_written;
 use mps_wire::write_outcome;
 use std::alloc::AllocError;
 
-// Copies the front of the text over the front of `out`, as much of it as fits.
+// Copies the front of the text over the front of `out`, as many bytes as both have; the rest of `out` stays. So a
+// caller learns with one call what fits.
 fn copy_front(text: &[u8], out: &mut [u8])
     ensures { out.new ≡ front_over text.now out.old }
 {
@@ -20,7 +21,7 @@ fn copy_front(text: &[u8], out: &mut [u8])
     out[..n].copy_from_slice(&text[..n]);
 }
 
-// A law: each entry of a room's journal has a line.
+// A law for `put_entry`: each entry of a room's journal has a line. When run it changes nothing.
 fn each_has_a_line(room: &Room)
     ensures { (k : ℕ) (entry : Kept) → slice_get room.now.journal k ≡ Some entry
         → CanBeWritten room.now.names entry.role entry.command }
@@ -32,7 +33,8 @@ fn each_has_a_line(room: &Room)
     each_entry_can_be_written();
 }
 
-// Puts the line of the k-th entry, from 0, in place of what the buffer had. Past the end the buffer is empty then.
+// Replaces the buffer's content by the line of the k-th entry, from 0, or by nothing past the end. When out of memory
+// the buffer may be empty.
 fn put_entry(room: &Room, k: u64, text: &mut Vec<u8>) -> Result<(), AllocError>
     ensures line { (entry : Kept) → slice_get room.now.journal k ≡ Some entry
         → OnOk result (SpellsJournalLine room.now.names text.new.items entry.role None entry.command) }
@@ -49,8 +51,9 @@ fn put_entry(room: &Room, k: u64, text: &mut Vec<u8>) -> Result<(), AllocError>
 }
 
 impl Embedded {
-    /// Writes the answer to the newest line over the front of `out`, or as much of it as fits, and gives the length of
-    /// the whole. It may be asked for as often as wanted, so an answer isn't lost where memory runs out for its text.
+    /// Copies the answer to the newest line over the front of `out`, as much as fits, and returns the length of the
+    /// whole in bytes, as snprintf does; it may be asked for again. Out of memory is the only error: `out` stays, and
+    /// the answer isn't lost.
     pub fn answer_into(&mut self, out: &mut [u8]) -> Result<usize, AllocError>
         ensures same { self.new ≡ self.old }
         ensures ok { IfOk result (IsFilled (λ text. SpellsReply text self.old.reply) out.old out.new) }
@@ -62,8 +65,9 @@ impl Embedded {
         Ok(self.text.len())
     }
 
-    /// Writes the k-th entry of the journal, from 0, as a script's line over the front of `out`, or as much of it as
-    /// fits, and gives the length of the whole line. Past the end that is 0, and nowhere else.
+    /// Copies the k-th entry of the journal, from 0, as a script's line over the front of `out`, as much as fits, and
+    /// returns the length of the whole in bytes. Past the end that is 0, and nowhere else. Out of memory is the only
+    /// error, and leaves `out` unchanged.
     pub fn entry_into(&mut self, k: u64, out: &mut [u8]) -> Result<usize, AllocError>
         ensures same { self.new ≡ self.old }
         ensures line { (entry : Kept) → slice_get self.old.room.journal k ≡ Some entry

@@ -2,7 +2,7 @@
 ghost use denote.Param.Send.{IsSend};
 ghost use Rattle.mps_embed.specs.contracts.embedded.Embedded as embedded;
 
-/// A room may go to another thread.
+/// A law: a room may go to another thread. The body is empty: the bound of the clause is checked.
 pub fn rooms_may_cross_threads()
     ensures room { IsSend embedded.the_row }
 {}

@@ -9,7 +9,8 @@ ghost use Rattle.mps_fidelity.specs.Examples.{first_branch_types};
 ghost use Rattle.mps_fidelity.specs.Examples.{AnotherAnswerIsGiven, RoundsGoOn, EitherBranchIsTaken, TypesHaveToFit};
 ghost use Rattle.mps_fidelity.specs.Examples.{SortsHaveToAgree, BranchesHaveToAgree, OneHasToReceiveFirst};
 
-/// What three roles do in protocols without faults, and what they are answered there.
+/// What three roles do in protocols without faults, and what they are answered there, as worked out by hand: tests of
+/// the definitions, checked by the prover.
 pub fn worked_protocols()
     ensures relay { DoInIt relay verdict }
     ensures loop_in_a_loop { DoInIt loops loop_types }
@@ -20,8 +21,9 @@ pub fn worked_protocols()
     ensures either_branch_is_taken { EitherBranchIsTaken }
 {}
 
-/// Where types aren't those of one protocol, a message may wait that isn't expected, or messages in
-/// both directions. So types have to fit each other, and branches to be compared.
+/// Counterexamples: where types aren't the projections of one protocol, a message that isn't expected may wait, or
+/// messages in both directions. So the laws need their premise that types fit each other, and that branches are
+/// compared.
 pub fn premises_are_needed()
     ensures types_have_to_fit { TypesHaveToFit }
     ensures sorts_have_to_agree { SortsHaveToAgree }

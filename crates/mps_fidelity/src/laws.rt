@@ -16,16 +16,16 @@ ghost use Rattle.mps_machine.specs.Machine.{Request, State, IsSound, initial, vi
 ghost use Rattle.mps_fidelity.specs.Duality.{AreDual};
 ghost use Rattle.mps_fidelity.specs.Fidelity.{AreOfOneProtocol, IsFaithful, IsHalfDuplex, mismatch};
 
-/// What two roles do in a protocol without faults is dual, third roles aside. A role that has ended
-/// is dual to any here.
+/// A law: what two roles of a protocol without faults do towards each other is dual (Honda, Vasconcelos, Kubo 1998):
+/// what one sends the other receives. A role that has ended counts as dual to any.
 pub fn projections_are_dual()
     ensures { (roles : List (List ℕ)) (tree : GlobalType) (p q : ℕ) (t u : LocalType)
         → fault_of roles tree ≡ None → p ≢ q
         → projection roles p tree ≡ Some t → projection roles q tree ≡ Some u → AreDual p q t u }
 {}
 
-/// Between two roles messages never wait in both directions: after any history that has a replay, in
-/// each sound state, and so after any requests, undos, rollbacks and returns to marks among them.
+/// A law: between two roles messages never wait in both directions (half-duplex, as in Cécé, Finkel 2005), after any
+/// history that has a replay, in each sound state, and so after any commands, undos and rollbacks among them.
 pub fn queues_are_half_duplex()
     ensures replayed { (types : List LocalType) (h : List Step) (v : View) (p q : ℕ)
         → AreOfOneProtocol types → replay (opening types) h ≡ Some v
@@ -38,8 +38,9 @@ pub fn queues_are_half_duplex()
         → p ≢ q → IsHalfDuplex (view_of types (after types initial requests).history) p q }
 {}
 
-/// The first message that waits for a role is of the sort, or one of the labels, that the role
-/// expects from its sender, at the same times.
+/// A law, session fidelity: the first message that waits for a role is of the sort, or has one of the labels, that the
+/// role's type expects from its sender, after any history that has a replay, in each sound state, and after any
+/// commands.
 pub fn sessions_are_faithful()
     ensures replayed { (types : List LocalType) (h : List Step) (v : View)
         → AreOfOneProtocol types → replay (opening types) h ≡ Some v → IsFaithful v }
@@ -50,8 +51,8 @@ pub fn sessions_are_faithful()
         → IsFaithful (view_of types (after types initial requests).history) }
 {}
 
-/// So no act is refused for the message that waits: no violation is a mismatch, nor is an answer to
-/// a command in a sound state, nor any answer to a list of requests.
+/// A law: so no act is refused for the message that waits: no violation is a `Mismatch`, nor is an answer in a sound
+/// state, nor any answer to a list of requests.
 pub fn nothing_is_a_mismatch()
     ensures violation { (types : List LocalType) (h : List Step) (v : View) (p : ℕ) (act : Act)
         → AreOfOneProtocol types → replay (opening types) h ≡ Some v

@@ -7,8 +7,8 @@ use mps_base::{Name, Sort, VarName};
 use std::alloc::{self, AllocError};
 
 impl Global {
-    /// `rec` of the variable, and then the body, in which the variable stands for the whole. The body is dropped where
-    /// memory runs out.
+    /// Builds `rec name . body`; in the body the variable stands for the whole. One box is allocated. When out of
+    /// memory the body is dropped. Nothing is checked here: `check` does that.
     pub fn rec(alloc: alloc::Global, name: VarName, body: Global) -> Result<Global, AllocError>
         ensures { IfOk result (λ g. plain g ≡ Rec name (plain body)) }
     {
@@ -16,8 +16,8 @@ impl Global {
         Ok(Global::Rec(name, body))
     }
 
-    /// The sender gives the receiver a value of the sort, and then `next` happens. `next` is dropped where memory runs
-    /// out.
+    /// Builds `sender -> receiver : sort . next`: one message, and what follows it. One box is allocated. When out of
+    /// memory `next` is dropped. Nothing is checked here: `check` does that.
     pub fn message(
         alloc: alloc::Global,
         sender: Name,
@@ -38,7 +38,8 @@ impl Global {
 }
 
 impl Branches {
-    /// A branch in front of the others. What follows its label, and the others, are dropped where memory runs out.
+    /// Puts a branch, a label and what follows it, in front of the others. Two boxes are allocated. When out of memory
+    /// both trees are dropped. Equal labels are not refused here: `check` does that.
     pub fn more(
         alloc: alloc::Global,
         label: Name,

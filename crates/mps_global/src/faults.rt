@@ -14,13 +14,14 @@ use crate::{Branches, Global, Protocol};
 use mps_base::{MAX_ROLES, MIN_ROLES, Name, VarName};
 use thiserror::Error;
 
-/// How many nodes a global type has at most.
+/// How many nodes a global type has at most; a larger one is `TooManyNodes`.
 pub const MAX_NODES: usize = 256;
 
-/// How many nodes stand on the longest path of a global type at most.
+/// How many nodes stand on the longest path of a global type at most, so that recursion over it needs little stack; a
+/// deeper one is `TooDeep`.
 pub const MAX_DEPTH: usize = 64;
 
-/// How many branches a choice has at most.
+/// How many branches a choice has at most; one with more is `TooManyBranches`.
 pub const MAX_BRANCHES: usize = 16;
 
 /// What is wrong with a protocol.
@@ -53,7 +54,7 @@ pub enum GlobalFault {
 }
 
 /// Whether a protocol is well-formed, or else its first fault: of its roles, then of its size, then of its nodes in
-/// preorder. The tree may be of any size: nothing goes more than 257 nodes deep into it.
+/// preorder. It does not allocate. The tree may be of any size: nothing goes more than 257 nodes deep into it.
 pub fn check(protocol: &Protocol) -> Result<(), GlobalFault>
     ensures ok { IsOk result
         ↔ (fault_of protocol.now.roles.items (plain protocol.now.body) ≡ None) }
@@ -79,8 +80,8 @@ pub fn check(protocol: &Protocol) -> Result<(), GlobalFault>
     }
 }
 
-/// What holds of a protocol without faults: its roles are those of a session, and its tree is
-/// within the limits.
+/// A law: a protocol without faults has the roles of a session (2 to 8, distinct), and its tree is within the limits of
+/// nodes and depth.
 pub fn protocol_laws()
     ensures roles { (roles : List (List ℕ)) (tree : GlobalType)
         → fault_of roles tree ≡ None → AreRoles roles }
@@ -88,14 +89,15 @@ pub fn protocol_laws()
         → fault_of roles tree ≡ None → (node_count tree ≤ 256) × (depth tree ≤ 64) }
 {}
 
-/// The size of a tree by the list of its nodes: `places` lists as many nodes as `node_count` says, and the greatest
-/// `level` in it is `depth`.
+/// A law: `places` lists as many nodes as `node_count` says, and the greatest `level` in it is `depth`. So limits on
+/// the two are limits on walks over the list.
 pub fn size_laws()
     ensures nodes { (tree : GlobalType) → length (places [] tree) ≡ node_count tree }
     ensures levels { (tree : GlobalType) → greatest (map level (places [] tree)) ≡ depth tree }
 {}
 
-// Whether a name stands twice in the list.
+// Whether a name stands twice in the list: each is compared with those after it. The list has at most 8 names here, as
+// the count is checked first.
 fn names_twice(names: &[Name]) -> bool
     ensures { result ≡ has_double names.now }
 {
@@ -105,15 +107,15 @@ fn names_twice(names: &[Name]) -> bool
     }
 }
 
-// Whether the name is in the list.
+// Whether the name is in the list, which is compared name by name: at most 8 roles.
 fn is_among(names: &[Name], name: &Name) -> bool
     ensures { result ≡ is_among names.now name.now }
 {
     names.iter().any(|other| other.is(name))
 }
 
-// What is left of the limit after each node has taken 1, or `None` where the nodes are more. It goes no deeper than the
-// limit.
+// What is left of `limit` after each node of the tree has taken 1, or `None` where there are more nodes. Counting down,
+// and not up, ends the walk after `limit` nodes, so no tree overflows the stack.
 #[cycle(nodes)]
 #[tactic(auto, using(crate::proofs::Sizes::some_node))]
 fn nodes_left(tree: &Global, limit: usize) -> Option<usize>
@@ -131,7 +133,7 @@ fn nodes_left(tree: &Global, limit: usize) -> Option<usize>
     }
 }
 
-// What is left of the limit after each node of the branches has taken 1, or `None` where the nodes are more.
+// `nodes_left` for the trees of a choice's branches, one after the other; the branches themselves take nothing.
 #[cycle(nodes)]
 fn branch_nodes_left(branches: &Branches, limit: usize) -> Option<usize>
     ensures { MatchOption result
@@ -147,7 +149,7 @@ fn branch_nodes_left(branches: &Branches, limit: usize) -> Option<usize>
     }
 }
 
-// Whether no path from the root has more nodes than the limit.
+// Whether no path from the root has more nodes than `limit`: the test of `TooDeep`. It goes no deeper than that.
 #[cycle(levels)]
 #[tactic(auto, using(crate::proofs::Sizes::some_depth))]
 fn is_within(tree: &Global, limit: usize) -> bool
@@ -163,7 +165,7 @@ fn is_within(tree: &Global, limit: usize) -> bool
     }
 }
 
-// Whether no path of the branches has more nodes than the limit.
+// `is_within` for each tree of a choice's branches, which take no level themselves.
 #[cycle(levels)]
 fn are_within(branches: &Branches, limit: usize) -> bool
     ensures { IsTrue result ↔ (branch_depth (plain_branches branches.now) ≤ limit) }
@@ -174,7 +176,8 @@ fn are_within(branches: &Branches, limit: usize) -> bool
     }
 }
 
-// The fault of the first faulty node of the tree in preorder, if there is one. `above` is the path to the tree.
+// The fault of the first faulty node in preorder, or `None`. `above` is the path from the root to the tree, which tells
+// which variables are bound and guarded. Only trees within both limits get here.
 #[cycle(walk)]
 fn first_fault(roles: &[Name], tree: &Global, above: &Above<'_>) -> Option<GlobalFault>
     ensures { result
@@ -193,7 +196,7 @@ fn first_fault(roles: &[Name], tree: &Global, above: &Above<'_>) -> Option<Globa
     }
 }
 
-// The fault of the first faulty node of the branches in preorder, if there is one. `above` is the path to them.
+// `first_fault` for the trees of a choice's branches, in order. `above` is the path to them, the choice with it.
 #[cycle(walk)]
 #[tactic(auto, using(crate::proofs::Walks::first_of_both))]
 fn first_branch_fault(roles: &[Name], branches: &Branches, above: &Above<'_>) -> Option<GlobalFault>
@@ -209,7 +212,8 @@ fn first_branch_fault(roles: &[Name], branches: &Branches, above: &Above<'_>) ->
     }
 }
 
-// The fault of the node itself, if it has one, whatever stands below it. `above` is the path to the node.
+// The first fault of the node alone, whatever stands below it, or `None`. `above` is the path from the root to the
+// node.
 fn node_fault(roles: &[Name], node: &Global, above: &Above<'_>) -> Option<GlobalFault>
     ensures { result
         ≡ first_true (node_tests roles.now (edges above.now) (plain node.now)) }
@@ -234,7 +238,8 @@ fn node_fault(roles: &[Name], node: &Global, above: &Above<'_>) -> Option<Global
     }
 }
 
-// The fault of a variable: no `rec` of it stands on the path `above`, or no act between that and the variable.
+// The fault of a variable on the path `above`: `Unbound` where no `rec` of it stands there, else `Unguarded` where no
+// message or choice comes between (contractiveness).
 fn variable_fault(name: &VarName, above: &Above<'_>) -> Option<GlobalFault>
     ensures { result ≡ first_true (variable_tests name.now (edges above.now)) }
 {
@@ -247,7 +252,8 @@ fn variable_fault(name: &VarName, above: &Above<'_>) -> Option<GlobalFault>
     None
 }
 
-// The fault of a `rec` of that variable: another `rec` of it stands on the path `above`.
+// `Shadowed` where another `rec` of the variable stands on the path `above`, else `None`. So a variable's name says
+// which `rec` it means.
 fn rec_fault(name: &VarName, above: &Above<'_>) -> Option<GlobalFault>
     ensures { result ≡ first_true (rec_tests name.now (edges above.now)) }
 {
@@ -257,8 +263,8 @@ fn rec_fault(name: &VarName, above: &Above<'_>) -> Option<GlobalFault>
     None
 }
 
-// What is wrong with the two roles of a message or a choice, if anything: one isn't among the roles, or they are the
-// same.
+// The fault of the two roles of a message or a choice: `UnknownRole` where one isn't among the roles, then
+// `SelfMessage` where they are the same.
 fn pair_fault(roles: &[Name], sender: &Name, receiver: &Name) -> Option<GlobalFault>
     ensures { result ≡ first_true (pair_tests roles.now sender.now receiver.now) }
 {
@@ -271,7 +277,7 @@ fn pair_fault(roles: &[Name], sender: &Name, receiver: &Name) -> Option<GlobalFa
     None
 }
 
-// What is wrong with the labels of a choice, if anything: one stands twice, they are too many, or there is none.
+// The fault of a choice's labels, the first that applies: one stands twice, they are more than 16, or there is none.
 fn label_fault(branches: &Branches) -> Option<GlobalFault>
     ensures { result ≡ first_true (label_tests (labels (plain_branches branches.now))) }
 {
@@ -287,7 +293,8 @@ fn label_fault(branches: &Branches) -> Option<GlobalFault>
     }
 }
 
-// Whether a label stands twice in the branches.
+// Whether a label stands twice: each is compared with those after it, O(branches^2). Only trees of at most 256 nodes
+// get here.
 fn has_double_label(branches: &Branches) -> bool
     ensures { result ≡ has_double (labels (plain_branches branches.now)) }
 {
@@ -298,7 +305,7 @@ fn has_double_label(branches: &Branches) -> bool
     }
 }
 
-// Whether a branch has that label.
+// Whether one of the branches has that label, compared one by one. O(branches).
 fn has_label(branches: &Branches, label: &Name) -> bool
     ensures { result ≡ is_among (labels (plain_branches branches.now)) label.now }
 {
@@ -312,7 +319,8 @@ fn has_label(branches: &Branches, label: &Name) -> bool
     }
 }
 
-// Whether the branches are more than the limit. One more than the limit are looked at, at most.
+// Whether there are more branches than `limit`. It looks at no more than `limit` + 1 of them, so a long list costs no
+// more.
 fn has_more_than(branches: &Branches, limit: usize) -> bool
     ensures { result ≡ nat_lt limit (length (labels (plain_branches branches.now))) }
 {

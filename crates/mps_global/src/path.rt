@@ -13,7 +13,8 @@ pub enum Above<'a> {
     Act(&'a Above<'a>),
 }
 
-/// Whether a `rec` of the variable stands on the path.
+/// Whether a `rec` of the variable stands on the path. O(path); the recursion is at most 64 deep in a tree within the
+/// limits.
 pub fn is_bound(name: &VarName, above: &Above<'_>) -> bool
     ensures { result ≡ is_bound name.now (edges above.now) }
 {
@@ -24,7 +25,8 @@ pub fn is_bound(name: &VarName, above: &Above<'_>) -> bool
     }
 }
 
-/// Whether a `rec` of the variable stands on the path below the nearest act, so that no act comes between the two.
+/// Whether a `rec` of the variable stands on the path with no message or choice below it: then the recursion comes back
+/// to itself with nothing done in between.
 pub fn is_unguarded(name: &VarName, above: &Above<'_>) -> bool
     ensures { result ≡ is_unguarded name.now (edges above.now) }
 {

@@ -13,7 +13,8 @@ pub struct Arms<'a> {
 }
 
 impl Branches {
-    /// The branches from the first to the last.
+    /// An iterator over the branches in order, each a label and what follows it. It borrows the tree, and does not
+    /// allocate.
     pub fn iter(&self) -> Arms<'_>
         ensures { arms_left result ≡ plain_branches self.now }
     {
@@ -31,7 +32,7 @@ impl<'a> Iterator for Arms<'a> {
 
     ghost remaining = { λ s. at_most (arm_count (arms_left s)) };
 
-    // The next branch, as its label and what follows it, until none is left.
+    // The next branch as its label and what follows it, borrowed from the tree, or `None` at the end. O(1).
     fn next(&mut self) -> Option<(&'a Name, &'a Global)> {
         match self.rest {
             Branches::NoMore => None,

@@ -1,5 +1,5 @@
 -- From what the parts of a connection do to what it does as a whole.
-use Rattle.std.proofs.Common.{◌≡◌, ℕ, inr, List, Option, Some, sym, subst}
+use Rattle.std.proofs.Common.{◌≡◌, ℕ, ◌-◌, inr, List, Option, Some, sym, subst}
 use Rattle.std.specs.Prelude.{IfSome}
 use Rattle.mps_cell.specs.Calls.{Known}
 use Rattle.mps_dev.specs.declared.traits.Sink.{Ghosts as SinkGhosts}
@@ -11,7 +11,7 @@ use Rattle.mps_room.specs.declared.caller.Caller.{Ghosts}
 use Rattle.mps_hub.specs.Connections.{HasAttended, RepliesToFirst}
 use Rattle.mps_hub.specs.Private.Connections.{CameOfJoining, IsAnsweredFirst}
 use Rattle.mps_hub.specs.First.{IsFirstLine, IsJoin}
-use Rattle.mps_hub.specs.Places.{HasSuchRole, IsPassOf, Offer}
+use Rattle.mps_hub.specs.Places.{HasSuchRole, IsKeptBy, IsPassOf, Offer}
 use Rattle.mps_hub.specs.declared.attending.Attended.{Attended}
 use Rattle.mps_hub.specs.declared.attending.Attended.TheVariants.{NoLine, TurnedAway, Conversed, Memory, Unrecorded}
 use Rattle.mps_hub.proofs.Bytewise.{joins_whole, joins_front}
@@ -20,27 +20,27 @@ pub if_some : {A : Type 0} (found : Option A) (x : A) (P : A → Type 0) → fou
 if_some found x P is h = subst (λ y. IfSome y P) is h
 
 -- the reply to the front of a line is that to the line
-replies_whole : (offer : Offer) (line kept : List ℕ) (reply : Reply) → kept ≡ front line → RepliesToFirst offer kept reply → RepliesToFirst offer line reply
-replies_whole offer line kept BadLine is h = λ session name j. h session name (joins_front line kept session name is j)
-replies_whole offer line kept NoSession is h = (h.0, h.1, joins_whole line kept h.0 h.1 is h.2, h.3)
-replies_whole offer line kept NoRole is h = (h.0, h.1, joins_whole line kept h.0 h.1 is h.2, h.3, h.4)
-replies_whole offer line kept Taken is h = (h.0, h.1, joins_whole line kept h.0 h.1 is h.2, h.3)
-replies_whole offer line kept (Joined session name) is h = (joins_whole line kept session name is h.0, h.1)
-replies_whole offer line kept WrongNumber is h = absurd h
-replies_whole offer line kept (Answered answer) is h = absurd h
+replies_whole : {K : Type 0} (offer : Offer) (keepers : List (Option K)) (line kept : List ℕ) (reply : Reply) → kept ≡ front line → RepliesToFirst offer keepers kept reply → RepliesToFirst offer keepers line reply
+replies_whole offer keepers line kept BadLine is h = λ session name j. h session name (joins_front line kept session name is j)
+replies_whole offer keepers line kept NoSession is h = (h.0, h.1, joins_whole line kept h.0 h.1 is h.2, h.3)
+replies_whole offer keepers line kept NoRole is h = (h.0, h.1, joins_whole line kept h.0 h.1 is h.2, h.3, h.4)
+replies_whole offer keepers line kept Taken is h = (h.0, h.1, joins_whole line kept h.0 h.1 is h.2, h.3, h.4)
+replies_whole offer keepers line kept (Joined session name) is h = (joins_whole line kept session name is h.0, h.1, h.2)
+replies_whole offer keepers line kept WrongNumber is h = absurd h
+replies_whole offer keepers line kept (Answered answer) is h = absurd h
 
 offered : (offer : Offer) (session : ℕ) (name : List ℕ) (pass : Known) → IsPassOf offer session name pass → HasSuchRole offer session name
 offered offer session name pass h = record { is_session = h.is_session; role = pass.role; named = h.of_role }
 
-module _ {C R W : Type 0} (caller : Ghosts C) (pass : C → Known) (source : SourceGhosts R) (sink : SinkGhosts W) (offer : Offer) (reader mid : R) (writer : W) (kept : List ℕ) (first : IsFirstLine source reader mid kept) where
+module _ {C K R W : Type 0} (caller : Ghosts C) (pass : C → Known) (keeper : C → Option K) (source : SourceGhosts R) (sink : SinkGhosts W) (offer : Offer) (keepers : List (Option K)) (reader mid : R) (writer : W) (kept : List ℕ) (first : IsFirstLine source reader mid kept) where
   -- a first line that got no pass, and its answer
-  pub refused : (writer' : W) (reply : Reply) (ended : Attended) → RepliesToFirst offer kept reply → IsAnsweredFirst sink writer writer' reply ended → HasAttended caller pass source sink offer reader writer mid writer' ended
+  pub refused : (writer' : W) (reply : Reply) (ended : Attended) → RepliesToFirst offer keepers kept reply → IsAnsweredFirst sink writer writer' reply ended → HasAttended caller pass keeper source sink offer keepers reader writer mid writer' ended
   refused writer' reply NoLine replies h = absurd h
   refused writer' reply TurnedAway replies h = record {
     kept = kept;
     first = first;
     reply = reply;
-    replies = replies_whole offer first.line kept reply first.front_kept replies;
+    replies = replies_whole offer keepers first.line kept reply first.front_kept replies;
     written = h;
   }
   refused writer' reply (Conversed ending) replies h = absurd h
@@ -48,17 +48,17 @@ module _ {C R W : Type 0} (caller : Ghosts C) (pass : C → Known) (source : Sou
   refused writer' reply Unrecorded replies h = absurd h
 
   -- a first line that got its pass, and what followed
-  pub joined : (session : ℕ) (name : List ℕ) (before after : C) (reader' : R) (writer' : W) (ended : Attended) → CameOfJoining caller source sink (Joined session name) before mid writer after reader' writer' ended → IsJoin kept session name → IsPassOf offer session name (pass before)
-      → HasAttended caller pass source sink offer reader writer reader' writer' ended
-  joined session name before after reader' writer' NoLine h joins taken = absurd h
-  joined session name before after reader' writer' TurnedAway h joins taken = let moved = subst (λ (r : R). IsFirstLine source reader r kept) (sym h.1) first in record {
+  pub joined : (session : ℕ) (name : List ℕ) (before after : C) (reader' : R) (writer' : W) (ended : Attended) → CameOfJoining caller source sink (Joined session name) before mid writer after reader' writer' ended → IsJoin kept session name → IsPassOf offer session name (pass before) → IsKeptBy keepers (session - offer.first) (keeper before)
+      → HasAttended caller pass keeper source sink offer keepers reader writer reader' writer' ended
+  joined session name before after reader' writer' NoLine h joins taken by = absurd h
+  joined session name before after reader' writer' TurnedAway h joins taken by = let moved = subst (λ (r : R). IsFirstLine source reader r kept) (sym h.1) first in record {
     kept = kept;
     first = moved;
     reply = Joined session name;
-    replies = (joins_whole moved.line kept session name moved.front_kept joins, offered offer session name (pass before) taken);
+    replies = (joins_whole moved.line kept session name moved.front_kept joins, (taken.is_session, (keeper before, by)), offered offer session name (pass before) taken);
     written = inr h.0;
   }
-  joined session name before after reader' writer' (Conversed ending) h joins taken = record {
+  joined session name before after reader' writer' (Conversed ending) h joins taken by = record {
     kept = kept;
     session = session;
     name = name;
@@ -68,7 +68,8 @@ module _ {C R W : Type 0} (caller : Ghosts C) (pass : C → Known) (source : Sou
     before = before;
     after = after;
     taken = taken;
+    kept_by = by;
     conversed = h;
   }
-  joined session name before after reader' writer' Memory h joins taken = h.0
-  joined session name before after reader' writer' Unrecorded h joins taken = h.0
+  joined session name before after reader' writer' Memory h joins taken by = h.0
+  joined session name before after reader' writer' Unrecorded h joins taken by = h.0

@@ -2,6 +2,7 @@
 pub mod Bytewise
 pub mod Shutting
 pub mod Locking
+pub mod Admitting
 pub mod Joining
 pub mod Cells
 pub mod Crossing

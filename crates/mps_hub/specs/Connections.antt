@@ -1,5 +1,5 @@
 -- What a connection comes to.
-use Rattle.std.specs.Prelude.{◌≡◌, ◌≢◌, ℕ, ◌+◌, ◌⊎◌, ⊤, List, All, length}
+use Rattle.std.specs.Prelude.{◌≡◌, ◌≢◌, ℕ, ◌+◌, ◌-◌, ◌⊎◌, ⊤, List, Option, All}
 use Rattle.std.specs.Io.KnownBytes.{Appends}
 use Rattle.mps_cell.specs.Calls.{Known}
 use Rattle.mps_dev.specs.declared.traits.Sink.{Ghosts as SinkGhosts}
@@ -18,22 +18,23 @@ use Rattle.mps_wire.specs.Conversations.{ConversesLine, ConversesBrokenOff}
 use Rattle.mps_wire.specs.declared.conversation.Ending.{Ending}
 use Rattle.mps_wire.specs.declared.conversation.Ending.TheVariants.{Untold}
 use Rattle.mps_hub.specs.First.{HasNoFirstLine, IsFirstLine, IsJoin}
-use Rattle.mps_hub.specs.Places.{HasSuchRole, IsPassOf, IsSession, Offer}
+use Rattle.mps_hub.specs.Places.{HasSuchRole, IsKeptBy, IsOpen, IsPassOf, Offer}
 use Rattle.mps_hub.specs.declared.attending.Attended.{Attended}
 use Rattle.mps_hub.specs.declared.attending.Attended.TheVariants.{NoLine, TurnedAway, Conversed, Memory, Unrecorded}
 
 -- the reply to a first line: that it is none, why it gets no pass, or that it joined
-abbrev pub RepliesToFirst : Offer → List ℕ → Reply → Type 0
-RepliesToFirst offer line BadLine = (session : ℕ) (name : List ℕ) → IsJoin line session name → ⊥
-RepliesToFirst offer line NoSession =
-    (session : ℕ) × (name : List ℕ) × IsJoin line session name × (¬ IsSession offer.first (length offer.cells) session)
-RepliesToFirst offer line NoRole = (session : ℕ) × (name : List ℕ) × IsJoin line session name
-    × IsSession offer.first (length offer.cells) session × All (λ other. other ≢ name) offer.names
-RepliesToFirst offer line Taken =
-    (session : ℕ) × (name : List ℕ) × IsJoin line session name × HasSuchRole offer session name
-RepliesToFirst offer line (Joined session name) = IsJoin line session name × HasSuchRole offer session name
-RepliesToFirst offer line WrongNumber = ⊥
-RepliesToFirst offer line (Answered answer) = ⊥
+abbrev pub RepliesToFirst : {K : Type 0} → Offer → List (Option K) → List ℕ → Reply → Type 0
+RepliesToFirst offer keepers line BadLine = (session : ℕ) (name : List ℕ) → IsJoin line session name → ⊥
+RepliesToFirst offer keepers line NoSession =
+    (session : ℕ) × (name : List ℕ) × IsJoin line session name × (¬ IsOpen offer keepers session)
+RepliesToFirst offer keepers line NoRole = (session : ℕ) × (name : List ℕ) × IsJoin line session name
+    × IsOpen offer keepers session × All (λ other. other ≢ name) offer.names
+RepliesToFirst offer keepers line Taken = (session : ℕ) × (name : List ℕ) × IsJoin line session name
+    × IsOpen offer keepers session × HasSuchRole offer session name
+RepliesToFirst offer keepers line (Joined session name) =
+    IsJoin line session name × IsOpen offer keepers session × HasSuchRole offer session name
+RepliesToFirst offer keepers line WrongNumber = ⊥
+RepliesToFirst offer keepers line (Answered answer) = ⊥
 
 -- the reply was written with its LF, and nothing else
 pub record WasSent {W : Type 0} (sink : SinkGhosts W) (old new : W) (reply : Reply) : Type 0 where
@@ -60,37 +61,40 @@ module _ {C R W : Type 0} (caller : Ghosts C) (source : SourceGhosts R) (sink : 
         (streams source sink reader told) (streams source sink reader' writer') after ending
 
 -- What one connection comes to: a reader and a writer, as they were before it and as they are after it.
-module _ {C R W : Type 0} (caller : Ghosts C) (pass : C → Known) (source : SourceGhosts R) (sink : SinkGhosts W)
-    (offer : Offer) (reader : R) (writer : W) (reader' : R) (writer' : W) where
-  -- its first line was refused, or the first answer broke off
-  pub record WasTurnedAway : Type 0 where
-    pub kept : List ℕ
-    pub first : IsFirstLine source reader reader' kept
-    pub reply : Reply
-    pub replies : RepliesToFirst offer first.line reply
-    pub written : (WasSent sink writer writer' reply × (code_of reply ≢ 0)) ⊎ SendingBrokeOff sink writer writer' reply
+module _ {C K R W : Type 0} (caller : Ghosts C) (pass : C → Known) (keeper : C → Option K) (source : SourceGhosts R)
+    (sink : SinkGhosts W) (offer : Offer) (keepers : List (Option K)) (reader : R) (writer : W) (reader' : R) (writer' : W)
+  where
+    -- its first line was refused, or the first answer broke off
+    pub record WasTurnedAway : Type 0 where
+      pub kept : List ℕ
+      pub first : IsFirstLine source reader reader' kept
+      pub reply : Reply
+      pub replies : RepliesToFirst offer keepers first.line reply
+      pub written : (WasSent sink writer writer' reply × (code_of reply ≢ 0)) ⊎ SendingBrokeOff sink writer writer' reply
 
-  -- it joined, and was answered so; and from there on its lines were a conversation of the pass that it asked for
-  pub record HasConversed (ending : Ending) : Type 0 where
-    pub kept : List ℕ
-    pub session : ℕ
-    pub name : List ℕ
-    pub joined : R
-    pub first : IsFirstLine source reader joined kept
-    pub joins : IsJoin first.line session name
-    pub before : C
-    pub after : C
-    pub taken : IsPassOf offer session name (pass before)
-    pub conversed : WasConversation caller source sink
-        (Joined session name) before joined writer after reader' writer' ending
+    -- it joined, and was answered so; and from there on its lines were a conversation of the pass that it asked for, which
+    -- the session's own keeper recorded, if there are keepers
+    pub record HasConversed (ending : Ending) : Type 0 where
+      pub kept : List ℕ
+      pub session : ℕ
+      pub name : List ℕ
+      pub joined : R
+      pub first : IsFirstLine source reader joined kept
+      pub joins : IsJoin first.line session name
+      pub before : C
+      pub after : C
+      pub taken : IsPassOf offer session name (pass before)
+      pub kept_by : IsKeptBy keepers (session - offer.first) (keeper before)
+      pub conversed : WasConversation caller source sink
+          (Joined session name) before joined writer after reader' writer' ending
 
-  -- by how it ended
-  abbrev pub HasAttended : Attended → Type 0
-  HasAttended NoLine = HasNoFirstLine source reader reader' × (writer' ≡ writer)
-  HasAttended TurnedAway = WasTurnedAway
-  HasAttended (Conversed ending) = HasConversed ending
-  HasAttended Memory = writer' ≡ writer
-  HasAttended Unrecorded = writer' ≡ writer
+    -- by how it ended
+    abbrev pub HasAttended : Attended → Type 0
+    HasAttended NoLine = HasNoFirstLine source reader reader' × (writer' ≡ writer)
+    HasAttended TurnedAway = WasTurnedAway
+    HasAttended (Conversed ending) = HasConversed ending
+    HasAttended Memory = writer' ≡ writer
+    HasAttended Unrecorded = writer' ≡ writer
 
 -- it did not end since lines were lost
 abbrev pub EndsForNoLoss : Attended → Type 0

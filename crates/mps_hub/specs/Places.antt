@@ -1,5 +1,5 @@
 -- What a desk has, and where.
-use Rattle.std.specs.Prelude.{◌≡◌, ℕ, ◌+◌, ◌-◌, ◌<◌, ◌≤◌, List, Some, slice_get, length}
+use Rattle.std.specs.Prelude.{◌≡◌, ℕ, ◌+◌, ◌-◌, ◌<◌, ◌≤◌, List, Option, Some, None, slice_get, get_or, length}
 use Rattle.mps_cell.specs.Calls.{Known}
 use Rattle.mps_cell.specs.Cells.{Opened}
 
@@ -28,6 +28,19 @@ pub record IsAtPlace (cells : List Opened) (place : ℕ) (pass : Known) : Type 0
 -- first
 abbrev pub IsOfSession : Offer → ℕ → Known → Type 0
 IsOfSession offer session pass = IsAtPlace offer.cells (session - offer.first) pass
+
+-- what records the session at this place, if something does
+abbrev pub keeper_at : {K : Type 0} → List (Option K) → ℕ → Option K
+keeper_at keepers place = get_or keepers place None
+
+-- nothing is recorded at all, or this, which is something, records the session at this place
+abbrev pub IsKeptBy : {K : Type 0} → List (Option K) → ℕ → Option K → Type 0
+IsKeptBy keepers place keeper = (keeper ≡ keeper_at keepers place) × (keeper ≡ None → length keepers ≡ 0)
+
+-- there is such a session, and something records it, unless nothing is recorded at all
+abbrev pub IsOpen : {K : Type 0} → Offer → List (Option K) → ℕ → Type 0
+IsOpen {K} offer keepers session = IsSession offer.first (length offer.cells) session
+    × ((keeper : Option K) × IsKeptBy keepers (session - offer.first) keeper)
 
 -- there is such a session, with a role of that name
 pub record HasSuchRole (offer : Offer) (session : ℕ) (name : List ℕ) : Type 0 where

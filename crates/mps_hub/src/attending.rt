@@ -1,13 +1,14 @@
 //! One connection, over any reader and writer.
-ghost use Rattle.std.specs.Prelude.{◌≡◌, ◌≢◌, ◌<◌, ◌^◌, ℕ, List, OnOk, IfOk, IfErr, Err, None, true, false, length};
+ghost use Rattle.std.specs.Prelude.{◌≡◌, ◌≢◌, ◌-◌, ◌<◌, ◌≤◌, ◌^◌, ℕ, List, OnOk, IfOk, IfErr, Err, true, false, length, vec_capacity};
+ghost use Rattle.std.specs.Option.{option_map};
 ghost use Rattle.mps_line.specs.Codes.{code_of};
 ghost use Rattle.mps_line.specs.Replies.{SpellsReply};
 ghost use Rattle.mps_lines.specs.Lines.{ended};
 ghost use Rattle.mps_hub.specs.Connections.{HasAttended, EndsForNoLoss, RepliesToFirst, SendingBrokeOff, WasSent};
-ghost use Rattle.mps_keeper.specs.Holds.{records_of, whole_of};
+ghost use Rattle.mps_keeper.specs.Holds.{keeper_of, records_of, whole_of};
 ghost use Rattle.mps_hub.specs.Private.Connections.{CameOfJoining, IsAnsweredFirst};
 ghost use Rattle.mps_hub.specs.First.{IsJoin};
-ghost use Rattle.mps_hub.specs.Places.{IsPassOf};
+ghost use Rattle.mps_hub.specs.Places.{IsKeptBy, IsPassOf, keeper_at};
 
 use crate::desk::{Desk, JoinFault};
 use crate::first::{asked_for, first_line};
@@ -86,32 +87,24 @@ fn refuse<W: Sink>(alloc: Global, writer: &mut W, reply: &Reply) -> Attended
 
 // A first line that got its pass.
 #[derive(Drop)]
-struct Admitted<'a> {
+struct Admitted<'s, 'd, S: Sink, D> {
     session: u64,
     name: Name,
-    pass: Pass<'a>,
+    pass: Pass<'d>,
+    keeper: Option<&'s Keeper<S, D>>,
 }
 
-// The pass that the line asks for, or the reply that says why there is none.
-fn admit<'a, H: Wait>(rt: &H, desk: &Desk<'a>, kept: &[u8]) -> Result<Admitted<'a>, Reply>
-    ensures joins { IfOk result (λ a. IsJoin kept.now a.session a.name) }
-    ensures pass { IfOk result (λ a. IsPassOf desk.now a.session a.name a.pass) }
-    ensures reply { IfErr result (RepliesToFirst desk.now kept.now) }
-    ensures refusal { IfErr result (λ reply. code_of reply ≢ 0) }
-{
-    let Some((session, name)) = asked_for(kept) else {
-        return Err(Reply::BadLine);
-    };
-    match desk.take(rt, session, &name) {
-        Ok(pass) => Ok(Admitted {
-            session,
-            name,
-            pass,
-        }),
-        Err(JoinFault::NoSession) => Err(Reply::NoSession),
-        Err(JoinFault::NoRole) => Err(Reply::NoRole),
-        Err(JoinFault::Taken) => Err(Reply::Taken),
-    }
+/// Who is told which session a connection joins, before it is told so itself.
+pub trait Usher {
+    fn joined(&self, session: u64);
+}
+
+/// No usher.
+#[derive(Drop)]
+pub struct NoUsher;
+
+impl Usher for NoUsher {
+    fn joined(&self, _session: u64) {}
 }
 
 /// A role's pass in a connection.
@@ -124,7 +117,7 @@ fn converse_joined<
     'r,
     'a,
     G: Gate + 'static,
-    H: Wait + 'static,
+    H: Wait + Eprint + 'static,
     S: Sink + 'static,
     D: Disk + 'static,
     R: Source,
@@ -163,12 +156,13 @@ pub struct Serving<'s, 'd, H, G, S: Sink, D> {
     pub desk: &'s Desk<'d>,
     /// What runs before each command.
     pub gate: &'s G,
-    /// What records the sessions, in their order: all of them, the first of them, or none.
-    pub keepers: &'s [Keeper<S, D>],
+    /// What records the sessions, in their order. With no keepers nothing is recorded; else a session without one can't
+    /// be joined.
+    pub keepers: &'s [Option<Keeper<S, D>>],
 }
 
 // No keepers.
-fn no_keepers() -> &'static [Keeper<Discard, File>]
+fn no_keepers() -> &'static [Option<Keeper<Discard, File>>]
     ensures { length result.now ≡ 0 }
 {
     &[]
@@ -195,23 +189,60 @@ impl<'s, 'd, H, G> Serving<'s, 'd, H, G, Discard, File> {
     }
 }
 
-impl<'s, 'd, H: Wait + 'static, G: Gate + 'static, S: Sink + 'static, D: Disk + 'static> Serving<
+impl<
     's,
     'd,
-    H,
-    G,
-    S,
-    D,
-> {
-    // The keeper of that session, where it has one.
-    fn keeper_of(&self, session: u64) -> Option<&'s Keeper<S, D>>
-        ensures { length self.now.keepers.now ≡ 0 → result ≡ None }
+    H: Wait + Eprint + 'static,
+    G: Gate + 'static,
+    S: Sink + 'static,
+    D: Disk + 'static,
+> Serving<'s, 'd, H, G, S, D> {
+    // What records the session at that place, if something does.
+    fn keeper_at(&self, place: usize) -> Option<&'s Keeper<S, D>>
+        ensures { option_map (λ k. k.now) result ≡ keeper_at self.now.keepers.now place }
     {
-        self.keepers.get(self.desk.place_of(session)?)
+        match self.keepers.get(place) {
+            Some(keeper) => keeper.as_ref(),
+            None => None,
+        }
     }
 
-    // Space for the lines that are recorded.
-    fn line_space(&self) -> Result<Vec<u8>, AllocError> {
+    // The pass that the line asks for and what records its session, or the reply that says why there is none.
+    fn admit(&self, kept: &[u8]) -> Result<Admitted<'s, 'd, S, D>, Reply>
+        ensures joins { IfOk result (λ a. IsJoin kept.now a.session a.name) }
+        ensures pass { IfOk result (λ a. IsPassOf self.now.desk.now a.session a.name a.pass) }
+        ensures keeper { IfOk result (λ a. IsKeptBy self.now.keepers.now (a.session - self.now.desk.now.first)
+            (option_map (λ k. k.now) a.keeper)) }
+        ensures reply { IfErr result (RepliesToFirst self.now.desk.now self.now.keepers.now kept.now) }
+        ensures refusal { IfErr result (λ reply. code_of reply ≢ 0) }
+    {
+        let Some((session, name)) = asked_for(kept) else {
+            return Err(Reply::BadLine);
+        };
+        let Some(place) = self.desk.place_of(session) else {
+            return Err(Reply::NoSession);
+        };
+        let keeper = self.keeper_at(place);
+        if keeper.is_none() && !self.keepers.is_empty() {
+            return Err(Reply::NoSession);
+        }
+        match self.desk.take(self.rt, session, &name) {
+            Ok(pass) => Ok(Admitted {
+                session,
+                name,
+                pass,
+                keeper,
+            }),
+            Err(JoinFault::NoSession) => Err(Reply::NoSession),
+            Err(JoinFault::NoRole) => Err(Reply::NoRole),
+            Err(JoinFault::Taken) => Err(Reply::Taken),
+        }
+    }
+
+    // Space for a line that is recorded, so that none is lost for want of memory.
+    fn line_space(&self) -> Result<Vec<u8>, AllocError>
+        ensures { 0 < length self.now.keepers.now → IfOk result (λ line. LONGEST_LINE ≤ vec_capacity line) }
+    {
         if self.keepers.is_empty() {
             Ok(Vec::new(self.alloc))
         } else {
@@ -234,8 +265,26 @@ impl<'s, 'd, H: Wait + 'static, G: Gate + 'static, S: Sink + 'static, D: Disk + 
         requires reads { R.calls reader.old < 2 ^ 61 }
         requires writes { W.failed_calls writer.old < 2 ^ 61 }
         ensures attended { HasAttended ⟦<PassGuest<'static, 'static, 'static, 'static, G, H, S, D> as Caller>⟧
-            (λ c. c.inner.pass)
-            R.Source W.Sink self.now.desk.now reader.old writer.old reader.new writer.new result }
+            (λ c. c.inner.pass) (λ c. keeper_of c.recorder) R.Source W.Sink
+            self.now.desk.now self.now.keepers.now reader.old writer.old reader.new writer.new result }
+        ensures told { length self.now.keepers.now ≡ 0 → EndsForNoLoss result }
+    {
+        self.attend_with(connection, &NoUsher, reader, writer)
+    }
+
+    /// The same, where the usher is told which session is joined.
+    pub fn attend_with<U: Usher, R: Source, W: Sink>(
+        &self,
+        connection: u64,
+        usher: &U,
+        reader: &mut R,
+        writer: &mut W,
+    ) -> Attended
+        requires reads { R.calls reader.old < 2 ^ 61 }
+        requires writes { W.failed_calls writer.old < 2 ^ 61 }
+        ensures attended { HasAttended ⟦<PassGuest<'static, 'static, 'static, 'static, G, H, S, D> as Caller>⟧
+            (λ c. c.inner.pass) (λ c. keeper_of c.recorder) R.Source W.Sink
+            self.now.desk.now self.now.keepers.now reader.old writer.old reader.new writer.new result }
         ensures told { length self.now.keepers.now ≡ 0 → EndsForNoLoss result }
     {
         let Ok(line) = self.line_space() else {
@@ -246,15 +295,17 @@ impl<'s, 'd, H: Wait + 'static, G: Gate + 'static, S: Sink + 'static, D: Disk + 
             Ok(None) => return Attended::NoLine,
             Err(_) => return Attended::Memory,
         };
-        match admit(self.rt, self.desk, first.as_slice()) {
+        match self.admit(first.as_slice()) {
             Ok(admitted) => {
                 let Admitted {
                     session,
                     name,
                     pass,
+                    keeper,
                 } = admitted;
+                usher.joined(session);
                 let rt = self.rt;
-                let hold = Hold::new(rt, self.keeper_of(session));
+                let hold = Hold::new(rt, keeper);
                 let mut guest = Guest::new(self.gate, connection, hold, Held { rt, pass }, line);
                 let joined = Reply::Joined { session, name };
                 let ended = converse_joined(self.alloc, &mut guest, &joined, reader, writer);

@@ -12,7 +12,7 @@ use std::sync::Wait;
 /// those of one protocol without faults. So no line that answers its conversation is `refused mismatch`: the law
 /// `no_conversation_meets_a_mismatch` of mps_wire.
 pub fn a_pass_meets_no_mismatch<
-    H: Wait + 'static,
+    H: Wait + Eprint + 'static,
     G: Gate + 'static,
     S: Sink + 'static,
     D: Disk + 'static,

@@ -21,11 +21,11 @@ mod patience;
 pub mod server;
 pub mod sessions;
 
-pub use attending::{Attended, PassGuest, Serving};
+pub use attending::{Attended, NoUsher, PassGuest, Serving, Usher};
 pub use desk::{Desk, JoinFault};
 pub use limits::Limits;
 pub use lobby::MAX_OPEN;
 pub use mps_keeper::{Gate, RestoredRoom, Unguarded};
 pub use patience::FIRST_LINE;
-pub use server::{ServeFault, Served, serve, serve_recorded, serve_with};
+pub use server::{ServeFault, Served, first_lost, serve, serve_recorded, serve_with};
 pub use sessions::{Hub, HubDeal};

@@ -11,6 +11,8 @@ pub struct Limits {
     pub connections: Option<u64>,
     /// How long one may send nothing, or take none of its answers. `None` is for ever.
     pub idle: Option<Duration>,
+    /// Whether a session of which lines are lost ends the server. Else it ends that session's connections alone.
+    pub strict: bool,
 }
 
 impl Limits {

@@ -9,17 +9,31 @@ use std::sync::{Arc, Condvar, Mutex, Wait};
 /// How many connections are open at once at most. Others wait in the system's queue.
 pub const MAX_OPEN: usize = 1_024;
 
-// The streams of the connections that are open, each at its place.
+// An open connection, and the session that it joined, if it did.
 #[derive(Drop)]
-struct OpenStreams {
-    streams: Vec<Option<Arc<TcpStream, Global>>>,
+struct Visitor {
+    stream: Arc<TcpStream, Global>,
+    session: Option<u64>,
+}
+
+impl Visitor {
+    // Ends the connection: its reads come back.
+    fn end(&self) {
+        let _ended = self.stream.shutdown(Shutdown::Both);
+    }
+}
+
+// The connections that are open, each at its place.
+#[derive(Drop)]
+struct Visitors {
+    places: Vec<Option<Visitor>>,
     closed: bool,
 }
 
-impl OpenStreams {
+impl Visitors {
     // A place that is free.
     fn free(&self) -> Option<usize> {
-        self.streams.iter().position(|stream| stream.is_none())
+        self.places.iter().position(|place| place.is_none())
     }
 }
 
@@ -38,7 +52,7 @@ pub(crate) struct Lobby {
     limits: Limits,
     // by which whoever waits for the next connection is woken
     bell: TcpStream,
-    inside: Mutex<OpenStreams>,
+    inside: Mutex<Visitors>,
     // woken when a connection left, or the lobby was closed
     left: Condvar,
 }
@@ -46,12 +60,12 @@ pub(crate) struct Lobby {
 impl Lobby {
     // A lobby in front of the listener that has this bell.
     pub(crate) fn new(alloc: Global, bell: TcpStream, limits: Limits) -> Result<Lobby, AllocError> {
-        let mut streams = Vec::with_capacity(alloc, MAX_OPEN)?;
+        let mut places = Vec::with_capacity(alloc, MAX_OPEN)?;
         for _ in 0..MAX_OPEN {
-            streams.push_reserved(None);
+            places.push_reserved(None);
         }
-        let inside = OpenStreams {
-            streams,
+        let inside = Visitors {
+            places,
             closed: false,
         };
         Ok(Lobby {
@@ -89,20 +103,41 @@ impl Lobby {
             return None;
         }
         let place = inside.free()?;
-        if place < inside.streams.len() {
-            inside.streams[place] = Some(shared);
+        if place < inside.places.len() {
+            inside.places[place] = Some(Visitor {
+                stream: shared,
+                session: None,
+            });
         }
         Some((place, stream))
+    }
+
+    // The connection at that place joined the session.
+    pub(crate) fn joined<R: Wait>(&self, rt: &R, place: usize, session: u64) {
+        let mut inside = self.inside.lock(rt);
+        if let Some(Some(visitor)) = inside.places.get_mut(place) {
+            visitor.session = Some(session);
+        }
     }
 
     // The connection at that place has ended.
     pub(crate) fn leave<R: Wait>(&self, rt: &R, place: usize) {
         let mut inside = self.inside.lock(rt);
-        if place < inside.streams.len() {
-            inside.streams[place] = None;
+        if place < inside.places.len() {
+            inside.places[place] = None;
         }
         drop(inside);
         self.left.notify_all();
+    }
+
+    // Ends the connections that joined the session.
+    pub(crate) fn end_session<R: Wait>(&self, rt: &R, session: u64) {
+        let inside = self.inside.lock(rt);
+        for visitor in inside.places.iter().flatten() {
+            if visitor.session == Some(session) {
+                visitor.end();
+            }
+        }
     }
 
     // Ends all connections, and lets no more in.
@@ -112,10 +147,8 @@ impl Lobby {
             return;
         }
         inside.closed = true;
-        for stream in &inside.streams {
-            if let Some(stream) = stream {
-                let _ended = stream.shutdown(Shutdown::Both);
-            }
+        for visitor in inside.places.iter().flatten() {
+            visitor.end();
         }
         drop(inside);
         self.left.notify_all();

@@ -1,9 +1,9 @@
 //! A server's connections, a thread for each.
-ghost use Rattle.std.specs.Prelude.{◌≡◌, ◌+◌, ◌<◌, ◌≤◌, ◌^◌, ◌↔◌, IfOk, IfErr, IfSome, IsOk, OnOk, OnErr, length};
+ghost use Rattle.std.specs.Prelude.{◌≡◌, ◌+◌, ◌<◌, ◌≤◌, ◌^◌, ◌↔◌, false, IfOk, IfErr, IfSome, IsOk, OnOk, OnErr, length};
 ghost use Rattle.std.specs.IoError.{error_kind};
 ghost use Rattle.mps_hub.specs.Serving.{IsServeFaultOf};
 
-use crate::attending::Serving;
+use crate::attending::{Serving, Usher};
 use crate::desk::Desk;
 use crate::limits::Limits;
 use crate::lobby::{Lobby, bell_of};
@@ -21,6 +21,9 @@ use thiserror::Error;
 
 // For how many milliseconds a server that accepts connections without end waits after one that couldn't be accepted.
 const PAUSE: u64 = 100;
+
+// How many connections in a row may end before they are accepted, or interrupt the wait for one.
+const PASSED_OVER: u64 = 1_000;
 
 // A connection whose thread couldn't be started.
 #[derive(Drop)]
@@ -66,16 +69,57 @@ fn linger<R: Clock>(rt: &R, stream: &TcpStream) {
     }
 }
 
-// The place of the first keeper of which lines were lost.
-fn broken_of<S: Sink, D>(keepers: &[Keeper<S, D>]) -> Option<usize>
+// Whether there is a keeper, and lines of it were lost.
+fn is_lost<S: Sink, D>(keeper: &Option<Keeper<S, D>>) -> bool {
+    match keeper {
+        Some(keeper) => keeper.is_broken(),
+        None => false,
+    }
+}
+
+/// The place of the first keeper of which lines were lost.
+pub fn first_lost<S: Sink, D>(keepers: &[Option<Keeper<S, D>>]) -> Option<usize>
     ensures { IfSome result (λ place. place < length keepers.now) }
 {
-    keepers.iter().position(|keeper| keeper.is_broken())
+    keepers.iter().position(|keeper| is_lost(keeper))
+}
+
+// A connection's place in the lobby.
+#[derive(Drop)]
+struct LobbyPlace<'l, R> {
+    rt: &'l R,
+    lobby: &'l Lobby,
+    place: usize,
+}
+
+impl<R: Wait> Usher for LobbyPlace<'_, R> {
+    fn joined(&self, session: u64) {
+        self.lobby.joined(self.rt, self.place, session);
+    }
+}
+
+// Ends the connections of each session of which lines were lost; all, where that ends the server.
+fn end_lost<R: Wait, G, S: Sink, D>(serving: &Serving<'_, '_, R, G, S, D>, lobby: &Lobby) {
+    let mut session = serving.desk.first();
+    for keeper in serving.keepers {
+        if is_lost(keeper) {
+            if lobby.limits().strict {
+                lobby.close(serving.rt);
+            }
+            lobby.end_session(serving.rt, session);
+        }
+        session = session.saturating_add(1);
+    }
 }
 
 // Attends to the connection at that place of the lobby, and closes it. Answers are sent at once (`TCP_NODELAY`), where
-// the system can. Where lines were lost no connection goes on.
-fn connection<R: Wait + Clock + 'static, G: Gate + 'static, S: Sink + 'static, D: Disk + 'static>(
+// the system can. Of a session of which lines were lost no connection goes on.
+fn connection<
+    R: Wait + Clock + Eprint + 'static,
+    G: Gate + 'static,
+    S: Sink + 'static,
+    D: Disk + 'static,
+>(
     serving: &Serving<'_, '_, R, G, S, D>,
     lobby: &Lobby,
     number: u64,
@@ -88,11 +132,10 @@ fn connection<R: Wait + Clock + 'static, G: Gate + 'static, S: Sink + 'static, D
         let _set = stream.set_nodelay(true);
         let mut reader = OverRead::new(timed);
         let mut writer = OverWrite::new(RetryingWriter { stream: &stream });
-        let _ended = serving.attend(number, &mut reader, &mut writer);
+        let usher = LobbyPlace { rt, lobby, place };
+        let _ended = serving.attend_with(number, &usher, &mut reader, &mut writer);
     }
-    if broken_of(serving.keepers).is_some() {
-        lobby.close(rt);
-    }
+    end_lost(serving, lobby);
     linger(rt, &stream);
     // the lobby has the other handle, and closes the socket before it lets the next connection in
     drop(stream);
@@ -110,6 +153,26 @@ fn accepted(found: io::Result<(TcpStream, SocketAddr)>) -> Result<TcpStream, Ser
         Err(error) if error.kind() == ErrorKind::OutOfMemory => Err(ServeFault::Memory),
         Err(_) => Err(ServeFault::Accept),
     }
+}
+
+// Whether that error of `accept` is of the connection, which is gone again, or of the wait for it, and no reason to accept
+// no more.
+fn is_passing(error: &io::Error) -> bool {
+    matches!(
+        error.kind(),
+        ErrorKind::ConnectionAborted | ErrorKind::Interrupted
+    )
+}
+
+// Accepts the next connection. One that is gone before it is accepted is passed over.
+fn accept_next(listener: &TcpListener) -> Result<TcpStream, ServeFault> {
+    for _ in 0..PASSED_OVER {
+        match listener.accept() {
+            Err(error) if is_passing(&error) => {}
+            found => return accepted(found),
+        }
+    }
+    Err(ServeFault::Accept)
 }
 
 // How many connections are lost by now, where one more thread was to be started.
@@ -130,7 +193,7 @@ fn let_in<
     's,
     'd,
     E,
-    R: Wait + Clock + Sync + 'static,
+    R: Wait + Clock + Eprint + Sync + 'static,
     G: Gate + Sync + 'static,
     S: Sink + Send + 'static,
     D: Disk + Sync + 'static,
@@ -159,7 +222,7 @@ fn accept_all<
     's,
     'd,
     E,
-    R: Wait + Clock + Sync + 'static,
+    R: Wait + Clock + Eprint + Sync + 'static,
     G: Gate + Sync + 'static,
     S: Sink + Send + 'static,
     D: Disk + Sync + 'static,
@@ -175,7 +238,7 @@ fn accept_all<
         if !lobby.lets_in(serving.rt) {
             return Ok(lost);
         }
-        match accepted(listener.accept()) {
+        match accept_next(listener) {
             Ok(stream) => {
                 let started = let_in(scope, serving, lobby, earlier + 1, stream);
                 lost = count_lost(lost, &started);
@@ -193,9 +256,10 @@ fn accept_all<
 /// Accepts connections, attends to each in a thread of its own, and returns when all have ended. A connection whose
 /// thread can't be started is closed and counted as lost. After a fault no more are accepted.
 ///
-/// Where a keeper loses lines, nothing is answered any more that isn't recorded, and all connections are ended.
+/// Nothing is answered that isn't recorded. Where a keeper loses lines, the connections of its session are ended; where
+/// the limits are strict, all are, and the session is the fault.
 pub fn serve_recorded<
-    R: Threads + Wait + Clock + Sync + 'static,
+    R: Threads + Wait + Clock + Eprint + Sync + 'static,
     G: Gate + Sync + 'static,
     S: Sink + Send + 'static,
     D: Disk + Sync + 'static,
@@ -207,7 +271,7 @@ pub fn serve_recorded<
     requires keepers { length serving.now.keepers.now ≤ length serving.now.desk.now.cells }
     ensures served { IfOk result (λ s. IfSome limits.connections (λ n. s.ended + s.lost ≡ n)) }
     ensures unrecorded { IfErr result
-        (IsServeFaultOf serving.now.desk.now.first (length serving.now.keepers.now)) }
+        (IsServeFaultOf limits.strict serving.now.desk.now.first (length serving.now.keepers.now)) }
 {
     let Some(bell) = bell_of(listener) else {
         return Err(ServeFault::Accept);
@@ -219,10 +283,12 @@ pub fn serve_recorded<
     let accepted = thread::scope(thread::scope_env(), serving.rt, move |scope| {
         accept_all(scope, serving, lobby, listener)
     });
-    if let Some(place) = broken_of(serving.keepers) {
-        return Err(ServeFault::Unrecorded {
-            session: serving.desk.first() + place as u64,
-        });
+    if limits.strict {
+        if let Some(place) = first_lost(serving.keepers) {
+            return Err(ServeFault::Unrecorded {
+                session: serving.desk.first() + place as u64,
+            });
+        }
     }
     counted(limits, accepted)
 }
@@ -232,7 +298,7 @@ pub fn serve_recorded<
 // accepting.
 fn counted(limits: Limits, accepted: Result<u64, ServeFault>) -> Result<Served, ServeFault>
     ensures served { IfOk result (λ s. IfSome limits.connections (λ n. s.ended + s.lost ≡ n)) }
-    ensures unrecorded { IfErr result (IsServeFaultOf 0 0) }
+    ensures unrecorded { IfErr result (IsServeFaultOf false 0 0) }
 {
     let all = limits.connections.unwrap_or(u64::MAX);
     match accepted {
@@ -250,7 +316,7 @@ fn counted(limits: Limits, accepted: Result<u64, ServeFault>) -> Result<Served, 
 }
 
 /// Accepts `n` connections to sessions that aren't recorded, with a gate that runs before each command.
-pub fn serve_with<R: Threads + Wait + Clock + Sync + 'static, G: Gate + Sync + 'static>(
+pub fn serve_with<R: Threads + Wait + Clock + Eprint + Sync + 'static, G: Gate + Sync + 'static>(
     rt: &R,
     alloc: Global,
     listener: &TcpListener,
@@ -259,18 +325,19 @@ pub fn serve_with<R: Threads + Wait + Clock + Sync + 'static, G: Gate + Sync + '
     gate: &G,
 ) -> Result<Served, ServeFault>
     ensures served { IfOk result (λ s. s.ended + s.lost ≡ n) }
-    ensures unrecorded { IfErr result (IsServeFaultOf desk.now.first 0) }
+    ensures unrecorded { IfErr result (IsServeFaultOf false desk.now.first 0) }
 {
     let limits = Limits {
         connections: Some(n),
         idle: None,
+        strict: false,
     };
     let serving = Serving::unrecorded(rt, alloc, desk, gate);
     serve_recorded(&serving, listener, limits)
 }
 
 /// Accepts `n` connections to sessions that aren't recorded.
-pub fn serve<R: Threads + Wait + Clock + Sync + 'static>(
+pub fn serve<R: Threads + Wait + Clock + Eprint + Sync + 'static>(
     rt: &R,
     alloc: Global,
     listener: &TcpListener,
@@ -278,7 +345,7 @@ pub fn serve<R: Threads + Wait + Clock + Sync + 'static>(
     n: u64,
 ) -> Result<Served, ServeFault>
     ensures served { IfOk result (λ s. s.ended + s.lost ≡ n) }
-    ensures unrecorded { IfErr result (IsServeFaultOf desk.now.first 0) }
+    ensures unrecorded { IfErr result (IsServeFaultOf false desk.now.first 0) }
 {
     serve_with(rt, alloc, listener, desk, n, &Unguarded)
 }

@@ -30,10 +30,12 @@ module _ {K C : Type 0} (recorder : RecorderGhosts K) (caller : CallerGhosts C) 
   IsSettled false = IsQuiet
 
   -- One call of the caller. A recorder that records lines has added the line of what was accepted, unless lines were
-  -- lost; after that it takes nothing; what it had it still has; and one that records none is as before.
+  -- lost; after that it takes nothing; what it had it still has; it records where it did; and one that
+  -- records none is as before.
   pub record IsRecorded (answer : Answer) : Type 0 where
     pub call : caller.calls c command answer d
     pub same : recorder.records after ≡ recorder.records before
+    pub same_place : recorder.place after ≡ recorder.place before
     pub once_whole : recorder.whole after ≡ true → recorder.whole before ≡ true
     pub settled : recorder.records before ≡ true → recorder.whole after ≡ true → IsSettled (is_accepted answer)
     pub over : recorder.whole before ≡ false → TookSealed (recorder.taken before) [] (recorder.taken after)

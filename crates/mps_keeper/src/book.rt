@@ -166,6 +166,10 @@ impl<W: Sink> Recorder for Book<W> {
 
     ghost whole = { whole_of };
 
+    ghost Place = { Unit {0} };
+
+    ghost place = { λ _. tt };
+
     fn records(&self) -> bool {
         true
     }

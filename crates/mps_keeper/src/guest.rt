@@ -42,6 +42,7 @@ impl<'g, G: Gate, K: Recorder, C: Recordable> Guest<'g, G, K, C> {
     ) -> Guest<'g, G, K, C>
         ensures inner { result.inner ≡ inner }
         ensures same { K.records result.recorder ≡ K.records recorder }
+        ensures place { K.place result.recorder ≡ K.place recorder }
         ensures once { K.whole result.recorder ≡ true → K.whole recorder ≡ true }
         ensures settled { TookSealed (K.taken recorder) [] (K.taken result.recorder) }
         ensures more { TookMore (bytes_of (K.taken recorder)) (bytes_of (K.taken result.recorder)) }
@@ -89,6 +90,7 @@ impl<'g, G: Gate, K: Recorder, C: Recordable> Guest<'g, G, K, C> {
     fn record(&mut self, accepted: bool, put: bool)
         ensures inner { self.new.inner ≡ self.old.inner }
         ensures same { K.records self.new.recorder ≡ K.records self.old.recorder }
+        ensures place { K.place self.new.recorder ≡ K.place self.old.recorder }
         ensures once { K.whole self.new.recorder ≡ true → K.whole self.old.recorder ≡ true }
         ensures added { K.whole self.new.recorder ≡ true → accepted ≡ true
             → IsTrue put × TookSealed (K.taken self.old.recorder) (self.old.line.items ∷ []) (K.taken self.new.recorder) }

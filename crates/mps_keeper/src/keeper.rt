@@ -21,16 +21,22 @@ use std::sync::{Condvar, Mutex, Wait};
 /// number below 2^64, a command, and two spaces.
 pub const LONGEST_LINE: usize = 32 + 1 + 20 + 1 + MAX_LINE + SEAL_BYTES + 1;
 
-/// A disk that can be told to store what was written.
+/// What stores the lines that were written.
 pub trait Disk {
     /// Says whether all that was written is stored.
     fn sync(&self) -> bool;
+
+    /// Is called once, when the first line is lost, to tell whoever looks after the server.
+    fn lost<R: Eprint>(&self, rt: &R);
 }
 
+/// A file that stores what was written each time, and tells nobody of what is lost.
 impl Disk for File {
     fn sync(&self) -> bool {
         self.sync_data().is_ok()
     }
+
+    fn lost<R: Eprint>(&self, _rt: &R) {}
 }
 
 // The lines that wait to be written, in order.
@@ -94,7 +100,7 @@ pub struct Keeper<W: Sink, D> {
     came: Condvar,
     // who has it writes
     writing: Mutex<Writing<W>>,
-    // where lines are recorded only once the disk says so
+    // where lines are recorded only once the disk says so, and who is told of a lost one
     disk: Option<D>,
     // how many lines are recorded
     recorded: AtomicU64,
@@ -107,7 +113,8 @@ fn lines_space(alloc: Global) -> Result<Vec<u8>, AllocError> {
 }
 
 impl<W: Sink + Drop, D: Drop> Keeper<W, D> {
-    /// A keeper over this book. Where a disk is given, a line is recorded once it says so.
+    /// A keeper over this book. Where a disk is given, a line is recorded once it says so, and it is told when one is
+    /// lost.
     pub fn new(alloc: Global, book: Book<W>, disk: Option<D>) -> Result<Keeper<W, D>, AllocError> {
         let lines = book.lines();
         let text = lines_space(alloc)?;
@@ -137,15 +144,6 @@ impl<W: Sink, D> Keeper<W, D> {
     // Whether so many lines are recorded, and none is lost.
     fn has_recorded(&self, lines: u64) -> bool {
         !self.is_broken() && self.recorded.load(Ordering::SeqCst) >= lines
-    }
-
-    // Gives up the line that is next, and so all after it.
-    fn lose<R: Wait>(&self, rt: &R) {
-        self.lost.store(true, Ordering::SeqCst);
-        let mut waiting = self.waiting.lock(rt);
-        waiting.whole = false;
-        drop(waiting);
-        self.came.notify_all();
     }
 
     // Adds the nth line to those that wait, once those before it came.
@@ -180,6 +178,19 @@ impl<W: Sink, D> Keeper<W, D> {
 impl<W: Sink, D: Disk> Keeper<W, D> {
     ghost use Rattle.mps_keeper.specs.BookParts.{sink_of, lines_of};
 
+    // Gives up the line that is next, and so all after it.
+    fn lose<R: Wait + Eprint>(&self, rt: &R) {
+        let was_lost = self.lost.swap(true, Ordering::SeqCst);
+        let mut waiting = self.waiting.lock(rt);
+        waiting.whole = false;
+        drop(waiting);
+        self.came.notify_all();
+        match &self.disk {
+            Some(disk) if !was_lost => disk.lost(rt),
+            _ => {}
+        }
+    }
+
     // Writes the lines that were handed over, and syncs them. Says whether they are recorded.
     fn write(&self, writing: &mut Writing<W>, lines: u64, seal: Seal) -> bool
         ensures taken { result ≡ true → Appends (W.taken (sink_of writing.old.book)) (W.taken (sink_of writing.new.book))
@@ -200,7 +211,7 @@ impl<W: Sink, D: Disk> Keeper<W, D> {
 
     // Has the lines recorded that wait, unless they are by then. Says whether so many are. Nothing is written after a
     // failure, and nothing synced, since the next sync may succeed although lines were lost.
-    fn flush<R: Wait>(&self, rt: &R, count: u64) -> bool {
+    fn flush<R: Wait + Eprint>(&self, rt: &R, count: u64) -> bool {
         if self.has_recorded(count) {
             return true;
         }
@@ -234,11 +245,12 @@ pub struct Hold<'k, R, W: Sink, D> {
 }
 
 impl<'k, R, W: Sink, D> Hold<'k, R, W, D> {
-    ghost use Rattle.mps_keeper.specs.Holds.{records_of, whole_of};
-    ghost use Rattle.std.specs.Option.{is_some};
+    ghost use Rattle.mps_keeper.specs.Holds.{keeper_of, records_of, whole_of};
+    ghost use Rattle.std.specs.Option.{is_some, option_map};
 
     /// A hold of the keeper; of none, where nothing is recorded.
     pub fn new(rt: &'k R, keeper: Option<&'k Keeper<W, D>>) -> Hold<'k, R, W, D>
+        ensures keeper { keeper_of result ≡ option_map (λ k. k.now) keeper.entry }
         ensures records { records_of result ≡ is_some keeper.entry }
         ensures whole { whole_of result ≡ true }
     {
@@ -250,15 +262,20 @@ impl<'k, R, W: Sink, D> Hold<'k, R, W, D> {
     }
 }
 
-impl<'k, R: Wait, W: Sink, D: Disk> Recorder for Hold<'k, R, W, D> {
-    ghost use Rattle.std.specs.Prelude.{None};
-    ghost use Rattle.mps_keeper.specs.Holds.{records_of, whole_of};
+impl<'k, R: Wait + Eprint, W: Sink, D: Disk> Recorder for Hold<'k, R, W, D> {
+    ghost use Rattle.std.specs.Prelude.{None, Option};
+    ghost use Rattle.mps_keeper.specs.Holds.{keeper_of, records_of, whole_of};
+    ghost use Rattle.mps_keeper.specs.declared.keeper.Keeper.{Keeper as KeeperOf};
 
     ghost records = { records_of };
 
     ghost taken = { λ _. None };
 
     ghost whole = { whole_of };
+
+    ghost Place = { Option (KeeperOf W D W.Sink) };
+
+    ghost place = { keeper_of };
 
     fn records(&self) -> bool {
         self.keeper.is_some()

@@ -16,6 +16,11 @@ pub trait Recorder {
     // Whether nothing was lost.
     ghost whole: { Self → Bool };
 
+    // Where it records.
+    ghost Place: { Type 0 };
+
+    ghost place: { Self → Place };
+
     /// Whether it records any lines at all.
     fn records(&self) -> bool
         ensures { result ≡ records self.now };
@@ -28,6 +33,7 @@ pub trait Recorder {
     /// Once lines were lost nothing more is taken. That it is recorded after those of the entries before it no clause says.
     fn add(&mut self, nth: u64, line: &mut Vec<u8>)
         ensures same { records self.new ≡ records self.old }
+        ensures place { place self.new ≡ place self.old }
         ensures once { whole self.new ≡ true → whole self.old ≡ true }
         ensures added { whole self.new ≡ true → TookSealed (taken self.old) (line.old.items ∷ []) (taken self.new) }
         ensures over { whole self.old ≡ false → TookSealed (taken self.old) [] (taken self.new) }
@@ -36,6 +42,7 @@ pub trait Recorder {
     /// Waits until so many lines are recorded.
     fn settle(&mut self, lines: u64)
         ensures same { records self.new ≡ records self.old }
+        ensures place { place self.new ≡ place self.old }
         ensures once { whole self.new ≡ true → whole self.old ≡ true }
         ensures settled { TookSealed (taken self.old) [] (taken self.new) }
         ensures more { TookMore (bytes_of (taken self.old)) (bytes_of (taken self.new)) };
@@ -43,6 +50,7 @@ pub trait Recorder {
     /// Gives up the line that is next, and so all after it.
     fn lose(&mut self)
         ensures same { records self.new ≡ records self.old }
+        ensures place { place self.new ≡ place self.old }
         ensures lost { whole self.new ≡ false }
         ensures nothing { TookSealed (taken self.old) [] (taken self.new) }
         ensures more { TookMore (bytes_of (taken self.old)) (bytes_of (taken self.new)) };

@@ -12,8 +12,8 @@ ghost use Rattle.mps_line.specs.declared.write_replies.Reply.TheVariants.{Answer
 use mps_base::{Message, Name, StepId, Value};
 use mps_command::{Answer, Done, Refusal};
 
-/// Whether the answer has a text, which each answer has. It does not allocate, so it can be asked where
-/// there is none left to write the text.
+/// Whether the answer can be written as a line: always. A caller asks it for the clause `text`, also when out of
+/// memory, where no line can be made to show it. It does not allocate.
 pub fn answer_has_text(answer: &Answer) -> bool
     ensures always { IsTrue result }
     ensures text { (text : List ℕ) × SpellsReply text (Answered answer.now) }
@@ -23,7 +23,7 @@ pub fn answer_has_text(answer: &Answer) -> bool
     true
 }
 
-// Whether the reply that joins this session by this name has a text, which each has. It does not allocate.
+// Whether the reply `joined` for this session and name can be written as a line: always. It does not allocate.
 pub(crate) fn pass_has_text(session: u64, name: &Name) -> bool
     ensures always { IsTrue result }
     ensures text { (text : List ℕ) × SpellsReply text (Joined session name.now) }
@@ -34,7 +34,8 @@ pub(crate) fn pass_has_text(session: u64, name: &Name) -> bool
     true
 }
 
-// A law: the parts of each answer have spellings.
+// A law: the parts of each answer have spellings. Nothing is done when run; the arms show the proof the ranges of their
+// parts.
 fn answer_is_spellable(answer: &Answer)
     ensures { AreSpellable (answer_tokens answer.now) }
 {
@@ -53,7 +54,7 @@ fn answer_is_spellable(answer: &Answer)
     }
 }
 
-// A law: the number of each step and the message that it took have spellings.
+// A law: a step's number and the message that it took have spellings. Nothing is done when run.
 fn done_is_spellable(done: &Done)
     ensures { AreSpellable (done_tokens done.now.id done.now.got) }
 {
@@ -65,7 +66,7 @@ fn done_is_spellable(done: &Done)
     }
 }
 
-// A law: each message has a spelling.
+// A law: each message, a value or a label, has a spelling. Nothing is done when run.
 fn message_is_spellable(message: &Message)
     ensures { IsSpellable (message_token message.now) }
 {
@@ -78,7 +79,7 @@ fn message_is_spellable(message: &Message)
     }
 }
 
-// A law: each value has a spelling.
+// A law: each value has a spelling. Nothing is done when run.
 #[tactic(auto, using(crate::proofs::Spellings::text))]
 fn value_is_spellable(value: &Value)
     ensures { IsSpellable (Worth value.now) }
@@ -93,7 +94,7 @@ fn value_is_spellable(value: &Value)
     }
 }
 
-// A law: each integer of 64 bits has a spelling.
+// A law: each integer of 64 bits has a spelling. Nothing is done when run.
 #[tactic(auto, using(crate::proofs::Spellings::int))]
 fn int_is_spellable(number: i64)
     ensures { IsSpellable (Worth (values.Int number)) }
@@ -102,7 +103,8 @@ fn int_is_spellable(number: i64)
     let _number = number;
 }
 
-// A law: the parts of each refusal have spellings. The numbers are looked at for the proof alone.
+// A law: the parts of each refusal have spellings. Nothing is done when run; the numbers are looked at for the proof
+// alone.
 fn refusal_is_spellable(refusal: &Refusal)
     ensures { AreSpellable (answer_tokens (Refused refusal.now)) }
 {
@@ -117,7 +119,7 @@ fn refusal_is_spellable(refusal: &Refusal)
     }
 }
 
-// A law: a count is below 2^64.
+// A law: a count is below 2^64, which the proof learns from the type. Nothing is done when run.
 fn count_is_small(count: u64)
     ensures { count < 2 ^ 64 }
 {
@@ -125,7 +127,7 @@ fn count_is_small(count: u64)
     let _count = count;
 }
 
-// A law: the number of each step is below 2^64.
+// A law: the number of each step is below 2^64. When run it reads each number, O(numbers), and keeps nothing.
 fn ids_are_small(ids: &[StepId])
     ensures { AllByRecursion (λ n. n < 2 ^ 64) ids.now }
 {

@@ -22,7 +22,7 @@ pub struct JournalLine {
     pub command: Command,
 }
 
-// Whether the role that the command names, if it names one, is one of these.
+// Whether the peer of the command is one of these roles; true where it names none.
 fn names_roles(roles: &Roles, command: &Command) -> bool
     ensures { IsTrue result ↔ NamesRolesOf roles.now command.now }
 {
@@ -37,16 +37,16 @@ fn names_roles(roles: &Roles, command: &Command) -> bool
     }
 }
 
-/// Whether the role's command has a line in a journal: the role, and the one that the command names, are among these,
-/// and it asks for a change.
+/// Whether the role's command can be written in a journal: the role and the command's peer are among these, and it asks
+/// for a change. Callers ask it before `write_journal_line`, which requires it.
 pub fn has_journal_line(roles: &Roles, role: Role, command: &Command) -> bool
     ensures { IsTrue result ↔ CanBeWritten roles.now role command.now }
 {
     role.index() < roles.count() && asks_for_change(command) && names_roles(roles, command)
 }
 
-/// Writes the line of a role's command at the end of `out`, without a line break. Where memory runs out, nothing of it
-/// is left there.
+/// Appends the line of a role's accepted command to `out`, without a line break: role, number if it has one, command.
+/// Out of memory is the only error, and leaves `out` unchanged.
 pub fn write_journal_line(
     roles: &Roles,
     role: Role,
@@ -67,7 +67,7 @@ pub fn write_journal_line(
     written
 }
 
-// Writes the line of a role's command at the end of `out`, or a part of it where memory runs out.
+// The writing of `write_journal_line`: when out of memory a part may stand in `out`, which the caller truncates.
 fn write_parts(
     roles: &Roles,
     role: Role,
@@ -89,8 +89,8 @@ fn write_parts(
     push_command(roles, command, out)
 }
 
-/// Reads a journal's line, which takes all of the bytes: a role's name, a number if there is one, and a command that
-/// asks for a change. Bytes that spell none are `Bad`.
+/// Reads all of the bytes as a journal's line: a role's name, a number if there is one, and a command that asks for a
+/// change. `Bad` for other bytes; `Memory` only where a text is sent. After an error nothing is kept.
 pub fn read_journal_line(
     alloc: Global,
     roles: &Roles,

@@ -12,8 +12,8 @@ ghost use Rattle.mps_line.specs.Replies.{SpellsReply};
 
 use mps_base::spelling::one_spelling;
 
-/// Bytes spell at most one command, where no two roles have one name, and each command has one
-/// spelling, with no line break in it. It names no role but these.
+/// A law: bytes spell at most one command, where no two roles have one name, and each command has one spelling, with no
+/// line break in it. It names no role but these. So reading and writing are inverse.
 pub fn one_command()
     ensures command { (names : List (List ℕ)) (a : List ℕ) (c d : Command) → AreDistinct names
         → SpellsCommand names a c → SpellsCommand names a d → c ≡ d }
@@ -28,8 +28,8 @@ pub fn one_command()
     one_spelling();
 }
 
-/// A line has at most one role and one command, where no two roles have one name. These have one
-/// line, with no line break in it.
+/// A law: a script's line has at most one role and one command, where no two roles have one name, and these have one
+/// line, with no line break in it. So reading and writing are inverse.
 pub fn one_script_line()
     ensures role { (names : List (List ℕ)) (a : List ℕ) (p q : ℕ) (c d : Command)
         → AreDistinct names → SpellsScriptLine names a p c → SpellsScriptLine names a q d → p ≡ q }
@@ -44,8 +44,8 @@ pub fn one_script_line()
     one_spelling();
 }
 
-/// A line of a conversation has at most one number, and one command where no two roles have one name.
-/// These have one line, with no line break in it. The command names no role but these.
+/// A law: a conversation's line has at most one number, and one command where no two roles have one name; these have
+/// one line, with no line break in it. The command names no role but these.
 pub fn one_numbered()
     ensures number { (names : List (List ℕ)) (a : List ℕ) (m n : Option ℕ) (c d : Command)
         → SpellsNumbered names a m c → SpellsNumbered names a n d → m ≡ n }
@@ -62,8 +62,8 @@ pub fn one_numbered()
     one_spelling();
 }
 
-/// Each reply has at most one text, which stands on one line and has a byte at least, and a text is at
-/// most one reply's. The text begins with an r where the reply has a code other than 0, and nowhere else.
+/// A law: each reply has at most one text, on one line and not empty, and a text is at most one reply's. It begins with
+/// `r` exactly where the reply has a code other than 0, so a client tells refusals by one byte.
 pub fn one_reply_line()
     ensures spelling { (a b : List ℕ) (r : Reply) → SpellsReply a r → SpellsReply b r → a ≡ b }
     ensures reply { (a : List ℕ) (r s : Reply) → SpellsReply a r → SpellsReply a s → r ≡ s }
@@ -77,8 +77,9 @@ pub fn one_reply_line()
     one_spelling();
 }
 
-/// A journal's line has at most one role, one number and one command where no two roles have one name, and these have
-/// one line, with no line break in it. One without a number is a script's line.
+/// A law: a journal's line has at most one role, one number and one command, where no two roles have one name, and
+/// these have one line, with no line break in it. One without a number is a script's line, so a journal file can be run
+/// as a script.
 pub fn one_journal_line()
     ensures role { (names : List (List ℕ)) (a : List ℕ) (p q : ℕ) (m n : Option ℕ) (c d : Command) → AreDistinct names
         → SpellsJournalLine names a p m c → SpellsJournalLine names a q n d → p ≡ q }

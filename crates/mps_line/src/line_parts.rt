@@ -9,7 +9,7 @@ ghost use Rattle.mps_line.specs.Private.Tokens.{HasNoSpace, BeginsWith};
 use mps_base::{Name, Role, Roles, StepId, read_number, write_number};
 use std::alloc::AllocError;
 
-// Where the first space stands, if there is one.
+// The place of the first space, or `None`. Apart, since its contract says besides that no space stands before.
 fn first_space(bytes: &[u8]) -> Option<usize>
     ensures within { IfSome result (λ place. place < length bytes.now) }
     ensures space { IfSome result (λ place. slice_index bytes.now place ≡ 32) }
@@ -19,7 +19,7 @@ fn first_space(bytes: &[u8]) -> Option<usize>
     bytes.iter().position(|&byte| byte == b' ')
 }
 
-// What stands before the first space, and what stands after it, if there is a space.
+// The bytes before the first space, and those after it; `None` without a space. Either may be empty.
 #[tactic(auto, using(crate::proofs::Splitting::no_space, crate::proofs::Splitting::never_spaced))]
 pub(crate) fn split_at_space(bytes: &[u8]) -> Option<(&[u8], &[u8])>
     ensures parts { IfSome result
@@ -32,7 +32,7 @@ pub(crate) fn split_at_space(bytes: &[u8]) -> Option<(&[u8], &[u8])>
     Some((&bytes[..place], &bytes[place + 1..]))
 }
 
-// What stands after the word and a space, where the bytes begin with these.
+// The bytes after the word and a space, where the bytes begin with both; else `None`. They may be empty.
 pub(crate) fn after_word<'a>(bytes: &'a [u8], word: &[u8]) -> Option<&'a [u8]>
     ensures read { IfSome result (λ rest. bytes.now ≡ spaced (word.now ∷ rest.now ∷ [])) }
     ensures none { IfNone result ((rest : List ℕ) → bytes.now ≢ spaced (word.now ∷ rest ∷ [])) }
@@ -41,7 +41,8 @@ pub(crate) fn after_word<'a>(bytes: &'a [u8], word: &[u8]) -> Option<&'a [u8]>
     if *first == b' ' { Some(rest) } else { None }
 }
 
-// Reads the number of a step, which takes all of the bytes.
+// Reads all of the bytes as the number of a step, below 2^64; `None` for other bytes. Whether there is such a step is
+// for the session to say.
 pub(crate) fn read_step(bytes: &[u8]) -> Option<StepId>
     ensures read { IfSome result (SpellsNumber bytes.now) }
     ensures none { IfNone result ((id : ℕ) → SpellsNumber bytes.now id → ⊥) }
@@ -49,7 +50,8 @@ pub(crate) fn read_step(bytes: &[u8]) -> Option<StepId>
     Some(StepId::new(read_count(bytes)?))
 }
 
-// The role of that name, as `Roles::find_spelled` finds it. Its contract is of the token.
+// The role whose name is all of the bytes, or `None`: `Roles::find_spelled` with a contract in terms of tokens, by
+// which the proofs of lines go.
 pub(crate) fn read_role(roles: &Roles, bytes: &[u8]) -> Option<Role>
     ensures read { IfSome result (SpellsRole roles.now bytes.now) }
     ensures none { IfNone result ((role : ℕ) → SpellsRole roles.now bytes.now role → ⊥) }
@@ -57,7 +59,8 @@ pub(crate) fn read_role(roles: &Roles, bytes: &[u8]) -> Option<Role>
     roles.find_spelled(bytes)
 }
 
-// The number, as `read_number` reads it. Its contract is of the token: a number below 2^64.
+// Reads all of the bytes as a number below 2^64, or `None`: `read_number` with a contract in terms of tokens, by which
+// the proofs of lines go.
 pub(crate) fn read_count(bytes: &[u8]) -> Option<u64>
     ensures read { IfSome result (SpellsNumber bytes.now) }
     ensures none { IfNone result ((n : ℕ) → SpellsNumber bytes.now n → ⊥) }
@@ -65,7 +68,8 @@ pub(crate) fn read_count(bytes: &[u8]) -> Option<u64>
     read_number(bytes)
 }
 
-// The role whose name stands before the first space, and what stands after it; none where no role's name stands there.
+// The role whose name stands before the first space, and the bytes after it; `None` where no role's name and space
+// stand there.
 #[tactic(auto, using(crate::proofs::Splitting::no_role_alone))]
 #[inline(always)]
 pub(crate) fn split_role<'a>(roles: &Roles, bytes: &'a [u8]) -> Option<(Role, &'a [u8])>
@@ -79,8 +83,8 @@ pub(crate) fn split_role<'a>(roles: &Roles, bytes: &'a [u8]) -> Option<(Role, &'
     Some((read_role(roles, name)?, rest))
 }
 
-// The number that stands before the first space, and what stands after it; none where no number stands there. Of bytes
-// that begin with no digit the first alone is looked at.
+// The number before the first space, and the bytes after it; `None` where no number and space stand there. A first byte
+// that is no digit answers at once, as in most lines.
 #[inline(always)]
 pub(crate) fn split_number(bytes: &[u8]) -> Option<(u64, &[u8])>
     ensures read { IfSome result (λ r. BeginsWith [] bytes.now (Number r.0) r.1.now) }
@@ -94,7 +98,7 @@ pub(crate) fn split_number(bytes: &[u8]) -> Option<(u64, &[u8])>
     Some((read_count(digits)?, rest))
 }
 
-// Writes the role's name at the end of `out`.
+// Appends the name of a role, which has to be one of these. Out of memory is the only error, and appends nothing.
 pub(crate) fn write_role(roles: &Roles, role: Role, out: &mut Vec<u8>) -> Result<(), AllocError>
     requires { role < length roles.now }
     ensures ok { OnOk result
@@ -104,7 +108,8 @@ pub(crate) fn write_role(roles: &Roles, role: Role, out: &mut Vec<u8>) -> Result
     out.extend_from_slice(roles.name(role).as_bytes())
 }
 
-// Writes the bytes of the name at the end of `out`. Its contract is of the token: they are a name's.
+// Appends a name, with a contract in terms of tokens, by which the proofs of lines go. Out of memory is the only error,
+// and appends nothing.
 pub(crate) fn write_name(name: &Name, out: &mut Vec<u8>) -> Result<(), AllocError>
     ensures ok { OnOk result
         (AppendsSuch (λ text. SpellsName text name.now) out.old.items out.new.items) }
@@ -113,7 +118,7 @@ pub(crate) fn write_name(name: &Name, out: &mut Vec<u8>) -> Result<(), AllocErro
     out.extend_from_slice(name.as_bytes())
 }
 
-// Writes the number of the step at the end of `out`.
+// Appends the number of a step in decimal. Out of memory is the only error, and appends nothing.
 #[inline(always)]
 pub(crate) fn write_step(id: StepId, out: &mut Vec<u8>) -> Result<(), AllocError>
     ensures ok { OnOk result
@@ -123,7 +128,8 @@ pub(crate) fn write_step(id: StepId, out: &mut Vec<u8>) -> Result<(), AllocError
     write_count(id.number(), out)
 }
 
-// Writes the number at the end of `out`, as `write_number` does. Its contract is of the token: a number below 2^64.
+// Appends a number in decimal: `write_number` with a contract in terms of tokens, by which the proofs of lines go. Out
+// of memory is the only error, and appends nothing.
 #[inline(always)]
 pub(crate) fn write_count(n: u64, out: &mut Vec<u8>) -> Result<(), AllocError>
     ensures ok { OnOk result

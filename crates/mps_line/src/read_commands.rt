@@ -31,7 +31,7 @@ pub enum LineFault {
 impl From<AllocError> for LineFault {
     ghost from_gives = { λ _ e. e ≡ OutOfMemory };
 
-    // A failed allocation is `Memory`.
+    // Lets `?` turn a failed allocation into `Memory`.
     fn from(_e: AllocError) -> LineFault {
         LineFault::Memory
     }
@@ -40,7 +40,7 @@ impl From<AllocError> for LineFault {
 impl<T: Drop> From<AllocFailed<T>> for LineFault {
     ghost from_gives = { λ _ e. e ≡ OutOfMemory };
 
-    // A failed allocation is `Memory`; what it gives back is dropped.
+    // Lets `?` turn a failed allocation into `Memory`; what the allocation gives back is dropped.
     fn from(_e: AllocFailed<T>) -> LineFault {
         LineFault::Memory
     }
@@ -62,8 +62,8 @@ pub enum Verb {
     Show,
 }
 
-/// Reads a line of a script, which takes all of the bytes: a role's name and its command. Bytes that spell no line are
-/// `Bad`.
+/// Reads all of the bytes as a line of a script: a role's name and its command. `Bad` for other bytes; `Memory` only
+/// where a text is sent. The length isn't limited here: callers refuse lines over 512 bytes.
 pub fn read_script_line(
     alloc: Global,
     roles: &Roles,
@@ -85,7 +85,7 @@ pub fn read_script_line(
     Ok((role, command))
 }
 
-/// Reads a command, which takes all of the bytes. Bytes that spell none are `Bad`.
+/// Reads all of the bytes as a command. `Bad` for other bytes; `Memory` only where a text is sent.
 pub fn read_command(alloc: Global, roles: &Roles, bytes: &[u8]) -> Result<Command, LineFault>
     ensures read { IfOk result (SpellsCommand roles.now bytes.now) }
     ensures bad { IsErrOf result LineFault.Bad → (command : Command)
@@ -105,7 +105,7 @@ pub fn read_command(alloc: Global, roles: &Roles, bytes: &[u8]) -> Result<Comman
     read_arguments(alloc, roles, verb, rest)
 }
 
-// The command whose verb takes no arguments and is all of the bytes, if there is one.
+// The command whose verb takes no arguments and is all of the bytes: `commit` or `show`; else `None`.
 fn lone_command(verb: &[u8]) -> Option<Command>
     ensures read { IfSome result (λ command. verb.now ≡ verb_word (verb_of command)) }
     ensures alone { IfSome result (λ command. arguments command ≡ []) }
@@ -118,9 +118,9 @@ fn lone_command(verb: &[u8]) -> Option<Command>
     }
 }
 
-// The verb, and what stands after it and a space. A verb that takes no arguments is found too, so that no verb is
-// missed; `read_argument` refuses it. `send` and `recv` are matched whole, the others by their words: to match all
-// whole takes more instructions in each line.
+// The verb in front, and the bytes after it and a space, or `None`. `commit` and `show` are found too, and refused by
+// `read_argument`. `send` and `recv` are matched whole and the others by two letters: a measured choice, since to match
+// all whole takes more instructions in each line.
 fn split_verb(bytes: &[u8]) -> Option<(Verb, &[u8])>
     ensures read { IfSome result (λ r. bytes.now ≡ spaced (verb_word r.0 ∷ r.1.now ∷ [])) }
     ensures none { IfNone result ((verb : Verb) (rest : List ℕ)
@@ -142,8 +142,8 @@ fn split_verb(bytes: &[u8]) -> Option<(Verb, &[u8])>
     }
 }
 
-// Reads the arguments of a verb, of which there is one at least, and makes the command. Only a text that is sent takes
-// memory.
+// Reads all of the bytes as the arguments of the verb, and makes the command. `Bad` for other bytes; `Memory` only
+// where a text is sent.
 fn read_arguments(
     alloc: Global,
     roles: &Roles,
@@ -179,8 +179,8 @@ fn read_arguments(
     }
 }
 
-// Reads the argument of a verb that takes one, and makes the command. A commit and a show take none, so no command is
-// read.
+// Reads all of the bytes as the one argument of the verb, or `None`; a commit and a show take none. Apart from the
+// verbs of two arguments, since it does not allocate.
 fn read_argument(roles: &Roles, verb: Verb, bytes: &[u8]) -> Option<Command>
     requires send { verb ≢ Verb.Send }
     requires choose { verb ≢ Verb.Choose }
@@ -206,7 +206,8 @@ fn read_argument(roles: &Roles, verb: Verb, bytes: &[u8]) -> Option<Command>
     }
 }
 
-// Reads a role's name and, after a space, the name of a label or a slot.
+// Reads all of the bytes as a role's name, a space, and the name of a label or a slot; else `Bad`. It does not
+// allocate, so it is never `Memory`.
 #[inline(always)]
 fn read_role_and_name(roles: &Roles, bytes: &[u8]) -> Result<(Role, Name), LineFault>
     ensures read { IfOk result
@@ -225,7 +226,8 @@ fn read_role_and_name(roles: &Roles, bytes: &[u8]) -> Result<(Role, Name), LineF
     }
 }
 
-// Reads a role's name and, after a space, the value that is to be sent. Only a text takes memory.
+// Reads all of the bytes as a role's name, a space, and the value to send; else `Bad`. Only a text allocates, and may
+// be `Memory`.
 fn read_role_and_value(
     alloc: Global,
     roles: &Roles,

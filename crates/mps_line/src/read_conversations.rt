@@ -12,8 +12,8 @@ use mps_base::Roles;
 use mps_command::Command;
 use std::alloc::Global;
 
-/// Reads a line of a conversation: a command, or a number and a command that asks for a change. A number before a
-/// question is `Bad`. Whoever lost an answer sends the same line with the same number again.
+/// Reads all of the bytes as a line of a conversation: a command, or a number below 2^64, a space, and a command that
+/// asks for a change. `Bad` for other bytes, as a number before a question; `Memory` only where a text is sent.
 pub fn read_numbered(
     alloc: Global,
     roles: &Roles,
@@ -38,7 +38,8 @@ pub fn read_numbered(
     Ok((Some(number), command))
 }
 
-/// Whether the command asks for a change. A number may stand in front of such a command alone.
+/// Whether the command asks for a change, and not a question: only such a command may have a number, and joins the
+/// journal.
 pub fn asks_for_change(command: &Command) -> bool
     ensures { IsTrue result ↔ MayHaveNumber command.now }
 {

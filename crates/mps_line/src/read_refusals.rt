@@ -16,7 +16,8 @@ use crate::read_commands::LineFault;
 use crate::write_replies::Reply;
 use mps_command::{Answer, Refusal, Violation};
 
-// Reads a reply that begins with `refused`: the refusal of a command, or that of a line, a connection or a number.
+// Reads all of the bytes as a reply that begins with `refused`: of a command, a line, a connection or a number; else
+// `Bad`. It does not allocate, so it is never `Memory`.
 #[tactic(auto, using(crate::proofs::ReplyLines::own_line))]
 pub(crate) fn refused_reply(bytes: &[u8]) -> Result<Reply, LineFault>
     ensures read { IfOk result (SpellsReply bytes.now) }
@@ -41,7 +42,8 @@ pub(crate) fn refused_reply(bytes: &[u8]) -> Result<Reply, LineFault>
     }
 }
 
-// The reply of that word after `refused` which isn't the refusal of a command, if there is one.
+// The reply of that word after `refused` that is no command's refusal: of a line, a session, a role, a connection or a
+// number; else `None`.
 fn own_reply(word: &[u8]) -> Option<Reply>
     ensures read { IfSome result (λ reply. word.now ≡ own_word reply) }
     ensures some { IfSome result (λ reply. 0 < length (own_word reply)) }
@@ -57,7 +59,8 @@ fn own_reply(word: &[u8]) -> Option<Reply>
     }
 }
 
-// Reads why a command is refused: its word, and after `final` or `needed` the number of a step.
+// Reads all of the bytes as why a command is refused: its word, and after `final` or `needed` a step's number; else
+// `None`.
 fn read_refusal(bytes: &[u8]) -> Option<Refusal>
     ensures read { IfSome result (λ refusal. SpellsLine [] bytes.now (refusal_tokens refusal)) }
     ensures none { IfNone result ((refusal : Refusal)
@@ -81,7 +84,7 @@ fn read_refusal(bytes: &[u8]) -> Option<Refusal>
     }
 }
 
-// The refusal of that word, where it is no violation and no step's number follows it.
+// The refusal of that word, where it is no violation and no step's number follows it; else `None`.
 fn lone_refusal(word: &[u8]) -> Option<Refusal>
     ensures read { IfSome result (λ refusal. word.now ≡ word_of refusal) }
     ensures alone { IfSome result (λ refusal. refusal_tokens refusal ≡ Word (word_of refusal) ∷ []) }
@@ -97,7 +100,7 @@ fn lone_refusal(word: &[u8]) -> Option<Refusal>
     }
 }
 
-// The violation of that word, if it is the word of one.
+// The violation of that word, or `None`: the inverse of `write_violation`.
 fn read_violation(word: &[u8]) -> Option<Violation>
     ensures read { IfSome result (λ violation. word.now ≡ word_of (Violates violation)) }
     ensures none { IfNone result ((violation : Violation)

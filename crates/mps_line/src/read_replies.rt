@@ -19,11 +19,9 @@ use mps_base::{Message, Name, StepId, Value, ValueFault};
 use mps_command::{Answer, Done, ShownText, StepIds};
 use std::alloc::Global;
 
-/// Reads a reply of any kind that takes all of the bytes, without a line break: an answer to a command, or any other
-/// `Reply`. What a shown session says isn't read.
-///
-/// Lists of numbers, texts and shown sessions take memory. A line that spells no reply is `Bad`, also
-/// where memory runs out.
+/// Reads all of the bytes as a reply of any kind, without a line break, as a client does; the JSON of a shown session
+/// isn't parsed. `Bad` for other bytes, also when out of memory; `Memory` only for lists of numbers, texts and shown
+/// sessions. After an error nothing is kept.
 pub fn read_answer(alloc: Global, bytes: &[u8]) -> Result<Reply, LineFault>
     ensures read { IfOk result (SpellsReply bytes.now) }
     ensures bad { IsErrOf result LineFault.Bad → (reply : Reply) → SpellsReply bytes.now reply → ⊥ }
@@ -40,8 +38,8 @@ pub fn read_answer(alloc: Global, bytes: &[u8]) -> Result<Reply, LineFault>
     }
 }
 
-/// Reads the first line of a connection: `join`, the number of a session and a role's name. It takes
-/// no memory.
+/// Reads all of the bytes as the first line of a connection: `join`, a session's number below 2^64 and a role's name;
+/// else `Bad`. It does not allocate, so it is never `Memory`.
 pub fn read_join(bytes: &[u8]) -> Result<(u64, Name), LineFault>
     ensures read { IfOk result (λ r. SpellsJoin bytes.now r.0 r.1) }
     ensures bad { IsErrOf result LineFault.Bad → (session : ℕ) (name : List ℕ)
@@ -57,7 +55,7 @@ pub fn read_join(bytes: &[u8]) -> Result<(u64, Name), LineFault>
     }
 }
 
-// Reads a number and, after a space, a name.
+// Reads all of the bytes as a number, a space and a name, or `None`: what `join` and `joined` share.
 fn read_number_and_name(bytes: &[u8]) -> Option<(u64, Name)>
     ensures read { IfSome result (λ r. SpellsLine [] bytes.now (Number r.0 ∷ Called r.1 ∷ [])) }
     ensures none { IfNone result ((n : ℕ) (name : List ℕ)
@@ -69,7 +67,8 @@ fn read_number_and_name(bytes: &[u8]) -> Option<(u64, Name)>
     Some((number, name))
 }
 
-// Reads `joined` with a session's number and a role's name.
+// Reads all of the bytes as `joined`, a session's number and a role's name; else `Bad`. It does not allocate, so it is
+// never `Memory`.
 fn joined_reply(bytes: &[u8]) -> Result<Reply, LineFault>
     ensures read { IfOk result (SpellsReply bytes.now) }
     ensures bad { IsErrOf result LineFault.Bad → (session : ℕ) (name : List ℕ)
@@ -86,7 +85,8 @@ fn joined_reply(bytes: &[u8]) -> Result<Reply, LineFault>
     Ok(Reply::Joined { session, name })
 }
 
-// Reads the text of a shown session. It is looked at before memory is asked for.
+// Reads all of the bytes as a shown session: printable ASCII that begins with `{`; else `Bad`. They are tested before
+// they are copied, so `Memory` comes only for a shown session.
 fn shown_reply(alloc: Global, bytes: &[u8]) -> Result<Reply, LineFault>
     ensures read { IfOk result (SpellsReply bytes.now) }
     ensures bad { IsErrOf result LineFault.Bad → (text : List ℕ)
@@ -102,21 +102,23 @@ fn shown_reply(alloc: Global, bytes: &[u8]) -> Result<Reply, LineFault>
     }
 }
 
-// Whether the bytes are the text of a shown session.
+// Whether the bytes may be a shown session: they begin with `{` and are printable ASCII. That they are JSON isn't
+// tested.
 fn is_shown_text(bytes: &[u8]) -> bool
     ensures { IsTrue result ↔ IsShownText bytes.now }
 {
     bytes.first() == Some(&b'{') && bytes.iter().all(|&byte| is_shown(byte))
 }
 
-// Whether the byte stands for a character that is shown: from the space to `~`.
+// Whether the byte is printable ASCII, from the space to `~`, as each byte of a line is.
 fn is_shown(byte: u8) -> bool
     ensures { IsTrue result ↔ IsShown byte }
 {
     (b' '..=b'~').contains(&byte)
 }
 
-// Reads `done` with the number of a step, and what the step took, if it took something.
+// Reads all of the bytes as `done`, a step's number, and the message that the step took, if it took one; else `Bad`.
+// `Memory` only for a text.
 fn done_reply(alloc: Global, bytes: &[u8]) -> Result<Reply, LineFault>
     ensures read { IfOk result (SpellsReply bytes.now) }
     ensures bad { IsErrOf result LineFault.Bad → (done : Done)
@@ -130,7 +132,8 @@ fn done_reply(alloc: Global, bytes: &[u8]) -> Result<Reply, LineFault>
     Ok(Reply::Answer(Answer::Done(done)))
 }
 
-// Reads the number of a step, and after a space the message that the step took, if there is a space.
+// The arguments of `done`: a step's number, and after a space the message, if there is a space; else `Bad`. `Memory`
+// only for a text.
 fn read_done(alloc: Global, bytes: &[u8]) -> Result<Done, LineFault>
     ensures read { IfOk result (λ done. SpellsLine [] bytes.now (done_tokens done.id done.got)) }
     ensures bad { IsErrOf result LineFault.Bad → (done : Done)
@@ -154,7 +157,8 @@ fn read_done(alloc: Global, bytes: &[u8]) -> Result<Done, LineFault>
     })
 }
 
-// Reads a message: a label or a value, of which no bytes spell both.
+// Reads all of the bytes as a message; else `Bad`. No bytes spell both a label and a value, so the order of the tries
+// doesn't matter. `Memory` only for a text.
 fn read_message(alloc: Global, bytes: &[u8]) -> Result<Message, LineFault>
     ensures read { IfOk result (λ message. SpellsToken [] bytes.now (message_token message)) }
     ensures bad { IsErrOf result LineFault.Bad → (message : Message)
@@ -172,7 +176,8 @@ fn read_message(alloc: Global, bytes: &[u8]) -> Result<Message, LineFault>
     }
 }
 
-// Reads `undone` with the numbers of some steps, or of none.
+// Reads all of the bytes as `undone` and the numbers of steps, or of none; else `Bad`. `Memory` only where numbers
+// follow.
 fn undone_reply(alloc: Global, bytes: &[u8]) -> Result<Reply, LineFault>
     ensures read { IfOk result (SpellsReply bytes.now) }
     ensures bad { IsErrOf result LineFault.Bad → (ids : List ℕ)
@@ -189,7 +194,8 @@ fn undone_reply(alloc: Global, bytes: &[u8]) -> Result<Reply, LineFault>
     Ok(Reply::Answer(Answer::Undone(StepIds::of(ids))))
 }
 
-// Reads `news` with the length of the journal, and the numbers of some steps, or of none.
+// Reads all of the bytes as `news`, the length of the journal, and the numbers of steps, or of none; else `Bad`.
+// `Memory` only where numbers follow.
 fn news_reply(alloc: Global, bytes: &[u8]) -> Result<Reply, LineFault>
     ensures read { IfOk result (SpellsReply bytes.now) }
     ensures bad { IsErrOf result LineFault.Bad → (n : ℕ) (ids : List ℕ)
@@ -212,7 +218,7 @@ fn news_reply(alloc: Global, bytes: &[u8]) -> Result<Reply, LineFault>
     Ok(news_of(length, ids))
 }
 
-// The reply with the news: the length of the journal, and the numbers of these steps.
+// The reply `news` of this length and these numbers. Apart, since a line with numbers and one without both make it.
 fn news_of(length: u64, ids: Vec<StepId>) -> Reply
     ensures { result ≡ Answered (News length ids.items) }
 {
@@ -222,8 +228,8 @@ fn news_of(length: u64, ids: Vec<StepId>) -> Reply
     })
 }
 
-// Reads the numbers of steps with a space between two, of one step at least. All are looked at before memory is asked
-// for, so bytes that spell none are `Bad` whatever memory there is.
+// Reads all of the bytes as numbers of steps, one at least, with a space between two; else `Bad`. All are tested before
+// memory is asked for, so `Memory` comes only for such a list.
 fn read_steps(alloc: Global, bytes: &[u8]) -> Result<Vec<StepId>, LineFault>
     ensures read { IfOk result (λ ids. SpellsSteps bytes.now ids.items) }
     ensures bad { IsErrOf result LineFault.Bad → (ids : List ℕ) → SpellsSteps bytes.now ids → ⊥ }
@@ -249,7 +255,8 @@ fn read_steps(alloc: Global, bytes: &[u8]) -> Result<Vec<StepId>, LineFault>
     Ok(ids)
 }
 
-// Whether the bytes are the numbers of steps with a space between two, of one step at least.
+// Whether the bytes are numbers of steps, one at least, with a space between two. It does not allocate: the test before
+// `read_steps` asks for memory.
 fn are_steps(bytes: &[u8]) -> bool
     ensures yes { IsTrue result → (ids : List ℕ) × SpellsSteps bytes.now ids }
     ensures no { IsFalse result → (ids : List ℕ) → SpellsSteps bytes.now ids → ⊥ }

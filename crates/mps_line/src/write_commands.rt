@@ -12,7 +12,8 @@ use mps_base::Roles;
 use mps_command::{Command, Forward};
 use std::alloc::{AllocError, Global};
 
-/// The line of the command in a buffer of its own, without a line break.
+/// The command's line in a buffer of its own, without a line break. The roles that it names have to be among these. It
+/// fails only when out of memory.
 pub fn write_command(alloc: Global, roles: &Roles, command: &Command) -> Result<Vec<u8>, AllocError>
     requires known { NamesRolesOf roles.now command.now }
     ensures { IfOk result (λ line. SpellsCommand roles.now line.items command.now) }
@@ -22,7 +23,8 @@ pub fn write_command(alloc: Global, roles: &Roles, command: &Command) -> Result<
     Ok(line)
 }
 
-/// Writes the command at the end of `out`, without a line break. Where memory runs out, nothing of it is left there.
+/// Appends the command's line to `out`, without a line break. The roles that it names have to be among these. Out of
+/// memory is the only error, and leaves `out` unchanged.
 pub fn append_command(roles: &Roles, command: &Command, out: &mut Vec<u8>) -> Result<(), AllocError>
     requires known { NamesRolesOf roles.now command.now }
     ensures ok { OnOk result (AppendsSuch
@@ -37,7 +39,8 @@ pub fn append_command(roles: &Roles, command: &Command, out: &mut Vec<u8>) -> Re
     written
 }
 
-/// Writes the command at the end of `out`, or a part of it where memory runs out.
+/// `append_command` without the clean-up, for writers of longer lines, which truncate the whole themselves: when out of
+/// memory a part may stand in `out`.
 pub(crate) fn push_command(
     roles: &Roles,
     command: &Command,
@@ -56,7 +59,8 @@ pub(crate) fn push_command(
     write_arguments(roles, command, out)
 }
 
-// Writes what stands after the verb and a space at the end of `out`, or a part of it where memory runs out.
+// Appends what stands after the verb and a space. When out of memory a part may stand in `out`; the caller truncates
+// it.
 fn write_arguments(roles: &Roles, command: &Command, out: &mut Vec<u8>) -> Result<(), AllocError>
     requires known { NamesRolesOf roles.now command.now }
     ensures ok { OnOk result (AppendsSuch
@@ -73,7 +77,8 @@ fn write_arguments(roles: &Roles, command: &Command, out: &mut Vec<u8>) -> Resul
     }
 }
 
-// Writes what stands after the verb of a step and a space at the end of `out`, or a part of it where memory runs out.
+// `write_arguments` for a step forward: its peer, and a value, a label or a slot, or a mark's name. When out of memory
+// a part may stand in `out`; the caller truncates it.
 fn write_forward(roles: &Roles, step: &Forward, out: &mut Vec<u8>) -> Result<(), AllocError>
     requires known { NamesRolesOf roles.now (commands.Forward step.now) }
     ensures ok { OnOk result (AppendsSuch
@@ -103,7 +108,7 @@ fn write_forward(roles: &Roles, step: &Forward, out: &mut Vec<u8>) -> Result<(),
     }
 }
 
-// Whether something stands after the verb of the command.
+// Whether something stands after the command's verb, so that a space is due: for all but `commit` and `show`.
 fn takes_arguments(command: &Command) -> bool
     ensures { IsTrue result ↔ TakesArguments command.now }
 {
@@ -118,7 +123,7 @@ fn takes_arguments(command: &Command) -> bool
     }
 }
 
-// The first word of the command.
+// The command's verb, its first word in a line: what `split_verb` and `lone_command` read.
 fn verb_word(command: &Command) -> &'static [u8]
     ensures { result.now ≡ verb_word (verb_of command.now) }
 {

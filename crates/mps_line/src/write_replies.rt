@@ -35,7 +35,8 @@ pub enum Reply {
 }
 
 impl Reply {
-    /// The code of a refusal, 1 to 19; of any other reply 0.
+    /// The code of a refusal, 1 to 19, for clients that have no words; 0 for any other reply. The codes are those of
+    /// docs/FORMATS.md.
     pub fn code(&self) -> u8
         ensures { result ≡ code_of self.now }
     {
@@ -50,8 +51,8 @@ impl Reply {
         }
     }
 
-    /// Whether the reply has a text, which each reply has; by `one_reply_line` it has just one. It does not allocate, so
-    /// it can be asked where there is no memory left to write the text.
+    /// Whether the reply can be written as a line: always, and as just one (`one_reply_line`). A caller asks it for the
+    /// clause `text`, also when out of memory. It does not allocate.
     pub fn has_text(&self) -> bool
         ensures always { IsTrue result }
         ensures text { (text : List ℕ) × SpellsReply text self.now }
@@ -67,7 +68,8 @@ impl Reply {
         }
     }
 
-    /// Writes the reply at the end of `out`, without a line break. Where memory runs out, nothing of it is left there.
+    /// Appends the reply's line to `out`, without a line break. Out of memory is the only error, and leaves `out`
+    /// unchanged.
     pub fn write(&self, out: &mut Vec<u8>) -> Result<(), AllocError>
         ensures ok { OnOk result
             (AppendsSuch (λ text. SpellsReply text self.now) out.old.items out.new.items) }
@@ -81,7 +83,7 @@ impl Reply {
         written
     }
 
-    // Writes the reply at the end of `out`, or a part of it where memory runs out.
+    // `write` without the clean-up: when out of memory a part may stand in `out`, which `write` truncates.
     fn write_parts(&self, out: &mut Vec<u8>) -> Result<(), AllocError>
         ensures ok { OnOk result
             (AppendsSuch (λ text. SpellsReply text self.now) out.old.items out.new.items) }
@@ -99,7 +101,8 @@ impl Reply {
     }
 }
 
-/// Writes that a line is unreadable at the end of `out`, without a line break.
+/// Appends `refused line`, the reply to an unreadable line, without a line break. Out of memory is the only error, and
+/// leaves `out` unchanged.
 pub fn write_bad_line(out: &mut Vec<u8>) -> Result<(), AllocError>
     ensures ok { OnOk result
         (AppendsSuch (λ text. SpellsReply text BadLine) out.old.items out.new.items) }
@@ -108,8 +111,8 @@ pub fn write_bad_line(out: &mut Vec<u8>) -> Result<(), AllocError>
     out.extend_from_slice(b"refused line")
 }
 
-// Writes `joined`, the session's number and the role's name at the end of `out`, or a part of them where memory runs
-// out.
+// Appends `joined`, the session's number and the role's name. When out of memory a part may stand in `out`; the caller
+// truncates it.
 fn write_joined(session: u64, name: &Name, out: &mut Vec<u8>) -> Result<(), AllocError>
     ensures ok { OnOk result (AppendsSuch
         (λ text. SpellsReply text (Joined session name.now)) out.old.items out.new.items) }
@@ -121,7 +124,7 @@ fn write_joined(session: u64, name: &Name, out: &mut Vec<u8>) -> Result<(), Allo
     write_name(name, out)
 }
 
-/// The line of the reply in a buffer of its own, without a line break.
+/// The reply's line in a buffer of its own, without a line break. It fails only when out of memory.
 pub fn write_answer(alloc: Global, reply: &Reply) -> Result<Vec<u8>, AllocError>
     ensures { IfOk result (λ line. SpellsReply line.items reply.now) }
 {
@@ -130,7 +133,8 @@ pub fn write_answer(alloc: Global, reply: &Reply) -> Result<Vec<u8>, AllocError>
     Ok(line)
 }
 
-/// The line of an answer that is kept for its number, in a buffer of its own, without a line break: that of its reply.
+/// The line of the reply with this answer, in a buffer of its own, without a line break: for an answer that is kept and
+/// only borrowed, of which `write_answer` would need a copy. It fails only when out of memory.
 pub fn write_kept(alloc: Global, answer: &Answer) -> Result<Vec<u8>, AllocError>
     ensures { IfOk result (λ line. SpellsReply line.items (Answered answer.now)) }
 {
@@ -139,7 +143,8 @@ pub fn write_kept(alloc: Global, answer: &Answer) -> Result<Vec<u8>, AllocError>
     Ok(line)
 }
 
-/// Writes the answer at the end of `out`, without a line break. Where memory runs out, a part of it may stand there.
+/// Appends the line of the reply with this answer to `out`, without a line break. When out of memory a part may stand
+/// in `out`, for the caller to truncate: so the usual path has no clean-up.
 #[inline(always)]
 pub fn append_answer(answer: &Answer, out: &mut Vec<u8>) -> Result<(), AllocError>
     ensures ok { OnOk result (AppendsSuch
@@ -158,8 +163,8 @@ pub fn append_answer(answer: &Answer, out: &mut Vec<u8>) -> Result<(), AllocErro
     }
 }
 
-/// Writes that a command is refused at the end of `out`, without a line break: what `append_answer` writes of such an
-/// answer. Where memory runs out, a part of it may stand there.
+/// Appends the line of a refused command to `out`, without a line break, as `append_answer` does. When out of memory a
+/// part may stand in `out`.
 pub fn write_refused(refusal: &Refusal, out: &mut Vec<u8>) -> Result<(), AllocError>
     ensures ok { OnOk result (AppendsSuch
         (λ text. SpellsReply text (Answered (Refused refusal.now))) out.old.items out.new.items) }
@@ -183,7 +188,7 @@ pub fn write_refused(refusal: &Refusal, out: &mut Vec<u8>) -> Result<(), AllocEr
     }
 }
 
-// Writes that a role's type doesn't allow the command at the end of `out`, or nothing where memory runs out.
+// Appends `refused` and the violation's word. Out of memory is the only error, and leaves `out` unchanged.
 fn write_violation(violation: Violation, out: &mut Vec<u8>) -> Result<(), AllocError>
     ensures ok { OnOk result (AppendsSuch
         (λ text. SpellsReply text (Answered (Refused (Violates violation)))) out.old.items out.new.items) }
@@ -200,8 +205,8 @@ fn write_violation(violation: Violation, out: &mut Vec<u8>) -> Result<(), AllocE
     }
 }
 
-// Writes the number of the step and the message that it took at the end of `out`, or a part of them where memory runs
-// out.
+// Appends the arguments of `done`: the step's number, and the message that it took, if it took one. When out of memory
+// a part may stand in `out`; the caller truncates it.
 #[inline(always)]
 fn write_done(done: &Done, out: &mut Vec<u8>) -> Result<(), AllocError>
     ensures ok { OnOk result (AppendsSuch
@@ -219,7 +224,8 @@ fn write_done(done: &Done, out: &mut Vec<u8>) -> Result<(), AllocError>
     }
 }
 
-// Writes the message at the end of `out`, or a part of it where memory runs out.
+// Appends a message, a value or a label, as it is spelled. When out of memory a part may stand in `out`; the caller
+// truncates it.
 fn write_message(message: &Message, out: &mut Vec<u8>) -> Result<(), AllocError>
     ensures ok { OnOk result (AppendsSuch
         (λ text. SpellsToken [] text (message_token message.now)) out.old.items out.new.items) }
@@ -231,7 +237,7 @@ fn write_message(message: &Message, out: &mut Vec<u8>) -> Result<(), AllocError>
     }
 }
 
-// Writes `undone` and the numbers of the steps at the end of `out`, or a part of them where memory runs out.
+// Appends `undone` and the steps' numbers. When out of memory a part may stand in `out`; the caller truncates it.
 fn write_undone(ids: &[StepId], out: &mut Vec<u8>) -> Result<(), AllocError>
     ensures ok { OnOk result (AppendsSuch
         (λ text. SpellsLine [] text (undone_tokens ids.now)) out.old.items out.new.items) }
@@ -241,8 +247,8 @@ fn write_undone(ids: &[StepId], out: &mut Vec<u8>) -> Result<(), AllocError>
     write_ids(ids, out)
 }
 
-// Writes `news`, the length of the journal and the numbers of the steps at the end of `out`, or a part of them where
-// memory runs out.
+// Appends `news`, the journal's length and the steps' numbers. When out of memory a part may stand in `out`; the caller
+// truncates it.
 fn write_news(length: u64, ids: &[StepId], out: &mut Vec<u8>) -> Result<(), AllocError>
     ensures ok { OnOk result (AppendsSuch
         (λ text. SpellsLine [] text (news_tokens length ids.now)) out.old.items out.new.items) }
@@ -253,7 +259,8 @@ fn write_news(length: u64, ids: &[StepId], out: &mut Vec<u8>) -> Result<(), Allo
     write_ids(ids, out)
 }
 
-// Writes the numbers of the steps at the end of a line, each after a space, or a part of them where memory runs out.
+// Appends the numbers of steps, each after a space. When out of memory a part may stand in `out`; the caller truncates
+// it.
 fn write_ids(ids: &[StepId], out: &mut Vec<u8>) -> Result<(), AllocError>
     ensures ok { OnOk result ((start : List ℕ) (first : Token) (others : List Token)
         → AppendsSuch (λ text. SpellsLine [] text (first ∷ others)) start out.old.items
@@ -267,7 +274,8 @@ fn write_ids(ids: &[StepId], out: &mut Vec<u8>) -> Result<(), AllocError>
     Ok(())
 }
 
-// The code of the refusal of a command.
+// The code of a command's refusal, 1 to 13 and 18, as docs/FORMATS.md lists them: new ones come at the end, so they
+// aren't in order.
 fn refusal_code(refusal: &Refusal) -> u8
     ensures { result ≡ refusal_code refusal.now }
 {
@@ -283,7 +291,7 @@ fn refusal_code(refusal: &Refusal) -> u8
     }
 }
 
-// The code of a violation: of what a role's type doesn't allow.
+// The code of a violation, 1 to 7, as docs/FORMATS.md lists them, in the order of `Violation`.
 fn violation_code(violation: Violation) -> u8
     ensures { result ≡ violation_code violation }
 {

@@ -36,7 +36,7 @@ impl Model for Lines {
 }
 
 impl Lines {
-    /// Lines to which no byte has come. It does not allocate.
+    /// Lines to which no byte has come. It does not allocate; the allocator is kept for `feed`.
     pub fn new(alloc: Global) -> Lines
         ensures { result ≡ nothing }
     {
@@ -46,8 +46,8 @@ impl Lines {
         }
     }
 
-    /// Takes a piece of bytes: the lines that it ends wait after the others, and what follows its last LF is the rest.
-    /// Where memory runs out, none of it is taken.
+    /// Takes a piece of any length: the lines that it ends wait after the others, and what follows its last LF is the
+    /// rest, of which 513 bytes are kept at most. Out of memory is the only error, and takes nothing of the piece.
     pub fn feed(&mut self, piece: &[u8]) -> Result<(), AllocError>
         ensures ok { OnOk result (self.new ≡ fed self.old piece.now) }
         ensures err { OnErr result (self.new ≡ self.old) }
@@ -61,7 +61,8 @@ impl Lines {
         Ok(())
     }
 
-    /// Takes the first line that waits, if one does. Where memory runs out, it still waits.
+    /// Removes and returns the first line that waits, without its LF, or `None` where only a rest is left. Out of
+    /// memory is the only error, and the line still waits then.
     pub fn next_line(&mut self) -> Result<Option<Line>, AllocError>
         ensures first { IfOk result (λ line. line ≡ slice_get self.old.waiting 0) }
         ensures others { OnOk result (self.new.waiting ≡ drop 1 self.old.waiting) }
@@ -78,7 +79,8 @@ impl Lines {
         Ok(Some(line))
     }
 
-    /// Takes the rest as a last line, where it has a byte. No line may wait. Where memory runs out, nothing is taken.
+    /// At the end of the input: removes and returns the rest as a last line without an LF, or `None` where it is empty.
+    /// No line may wait. Out of memory is the only error, and removes nothing.
     pub fn finish(&mut self) -> Result<Option<Line>, AllocError>
         requires { self.old.waiting ≡ [] }
         ensures last { IfOk result (λ line. line ≡ last_of self.old.rest) }
@@ -95,8 +97,8 @@ impl Lines {
     }
 }
 
-// Takes the first `count` bytes as a line, which shares their block if it is a text. Only that asks for memory; where
-// it runs out, nothing is taken.
+// Removes the first `count` bytes as a line: `TooLong`, `NotAscii`, or a text, which shares their block in place of a
+// copy. Only a text may fail, when out of memory, and removes nothing then.
 fn take_line(bytes: &mut BytesMut, count: usize) -> Result<Line, AllocError>
     requires { count ≤ length bytes.old.items }
     ensures line { IfOk result (λ line. line ≡ line_of (take count bytes.old.items)) }
@@ -114,8 +116,8 @@ fn take_line(bytes: &mut BytesMut, count: usize) -> Result<Line, AllocError>
     Ok(Line::Text(bytes.freeze_to(count)?))
 }
 
-// Whether each byte is below 128. A loop that looks at all bytes is compiled to one that looks at many at a time; std's
-// `is_ascii` ends at the first that isn't.
+// Whether each byte is below 128. The loop has no early exit, so the compiler vectorises it, where std's `is_ascii`
+// ends at the first other byte.
 fn is_ascii(bytes: &[u8]) -> bool
     ensures { result ≡ list_all is_ascii bytes.now }
 {
@@ -126,7 +128,7 @@ fn is_ascii(bytes: &[u8]) -> bool
     largest < 128
 }
 
-// Where the rest of a piece begins: after its last LF, or at its front where it has none.
+// Where the rest of a piece begins: after its last LF, or at 0 where it has none. Found from the end, by memrchr.
 fn last_start(piece: &[u8]) -> usize
     ensures within { result ≤ length piece.now }
     ensures rest { drop result piece.now ≡ (cut piece.now).rest }

@@ -13,7 +13,7 @@ pub const MAX_LINE: usize = 512;
 /// that it is too long.
 pub const MOST_KEPT: usize = MAX_LINE + 1;
 
-/// Where the first line ends: the place of the first LF, if there is one.
+/// The place of the first LF, where the first line ends, or `None`. O(bytes), by memchr.
 pub fn line_end(bytes: &[u8]) -> Option<usize>
     ensures within { IfSome result (λ k. k < length bytes.now) }
     ensures end { IfSome result (λ k. slice_index bytes.now k ≡ 10) }
@@ -23,8 +23,8 @@ pub fn line_end(bytes: &[u8]) -> Option<usize>
     memchr(b'\n', bytes)
 }
 
-/// Adds a piece of a line to what is kept of its front. Of the line `MOST_KEPT` bytes are kept in all, and the others
-/// dropped.
+/// Appends a piece to what is kept of a line's front, up to 513 bytes in all; the others are dropped, since one byte
+/// over the limit shows that the line is too long. Out of memory is the only error, and appends nothing.
 #[inline(never)]
 pub fn keep(line: &mut Vec<u8>, piece: &[u8]) -> Result<(), AllocError>
     requires { length line.old.items ≤ most_kept }

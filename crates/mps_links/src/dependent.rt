@@ -11,8 +11,9 @@ use crate::order::{earlier, with_number};
 use mps_arena::{Arena, steps_are_sound};
 use mps_base::StepId;
 
-/// The least number of another step that depends on this one, if one does. It is the number of its role's next step or
-/// of its receipt. Unproved: it looks at no other step.
+/// The least number of another step that depends on this one, or `None`. Dependence spreads through a role's next step
+/// and through a receipt, so the least is one of these two. O(1); it does not allocate. Unproved: it looks at no other
+/// step.
 pub fn least_dependent(arena: &Arena, id: StepId) -> Option<StepId>
     requires present { IsSome (step_of (steps arena.now.keyed_steps) id) }
     ensures least { result ≡ least (dependents (steps arena.now.keyed_steps) id) }

@@ -10,7 +10,7 @@ use crate::order::{earlier, with_number};
 use mps_arena::{Arena, Key, steps_are_sound};
 use mps_base::{Act, Role, StepId};
 
-// The key itself where its step is a commit, else `other`.
+// The key itself where its step is a commit, else `other`: one step of the fold in `first_final_of`.
 fn commit_or(arena: &Arena, key: Key, other: Option<Key>) -> Option<Key>
     requires { IsSome (keyed_at key arena.now.keyed_steps) }
     ensures { (e : KeyedStep) → keyed_at key arena.now.keyed_steps ≡ Some e
@@ -22,7 +22,8 @@ fn commit_or(arena: &Arena, key: Key, other: Option<Key>) -> Option<Key>
     }
 }
 
-// The role's first marked commit, if it has one, by a walk from its last step back to the first marked one.
+// The role's earliest marked commit, or `None`: a walk from its last step back to the first unmarked one. Marks are
+// closed, so the role's marked steps are its last. O(marked steps of the role).
 fn first_final_of(arena: &Arena, role: Role) -> Option<Key>
     requires small { role < 8 }
     requires closed { AreMarksClosed arena.now.keyed_steps }
@@ -47,8 +48,8 @@ fn first_final_of(arena: &Arena, role: Role) -> Option<Key>
     first
 }
 
-/// The least number of a marked commit, if one is marked, where each step that depends on a marked one is marked. It
-/// does not allocate. Unproved: it looks at no unmarked step but at one of each role.
+/// The least number of a marked commit, or `None`, where marks are closed: each step that depends on a marked one is
+/// marked. It does not allocate. Unproved: O(marked steps), it looks at no unmarked step but one of each role.
 pub fn least_final(arena: &Arena) -> Option<StepId>
     requires closed { AreMarksClosed arena.now.keyed_steps }
     ensures least { result ≡ least (marked_commits arena.now.keyed_steps) }

@@ -9,15 +9,16 @@ ghost use Rattle.mps_arena.specs.KeyedSteps.{KeyedStep, steps, keyed_at, AreSoun
 ghost use Rattle.mps_links.specs.Marks.{marked_keys, marked_steps, AreMarksClosed, marked_by, unmarked_steps};
 ghost use Rattle.mps_links.specs.Marks.{marked_commits};
 
-/// Where the newest marked step goes, each step that depends on a marked one is still marked.
+/// A law: removing the newest marked step leaves marks closed: each step that depends on a marked one is still marked.
+/// The invariant of the loop that removes them.
 pub fn marks_stay_closed()
     ensures { (es : List KeyedStep) (k : ℕ) → AreSound es → AreMarksClosed es
         → last_key None (marked_keys es) ≡ Some k
         → AreMarksClosed (filter (λ e. not (e.key == k)) es) }
 {}
 
-/// Where the newest marked step goes, the unmarked ones stay, and of the marked ones all but the
-/// last. So in the end the history is left without the marked ones.
+/// A law: removing the newest marked step leaves the unmarked ones, and all marked ones but the last. So the loop ends,
+/// with the history without the marked ones.
 pub fn marked_steps_go()
     ensures stay { (es : List KeyedStep) (k : ℕ) → AreSound es
         → last_key None (marked_keys es) ≡ Some k

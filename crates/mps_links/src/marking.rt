@@ -14,8 +14,9 @@ use crate::pending::Pending;
 use mps_arena::{Arena, Key, steps_are_sound};
 use mps_base::{Role, StepId};
 
-/// Marks the step of that number and all that depend on it, and tells how many they are. It goes from link to link, the
-/// oldest first. Unproved: it looks at no step that it doesn't mark, but at the next of each role.
+/// Marks the step of that number and all that depend on it, its causal future, and returns how many. It goes from link
+/// to link, the oldest first, and does not allocate. Unproved: O(marked steps), it looks at none that it doesn't mark,
+/// but at the next of each role.
 pub fn mark_from(arena: &mut Arena, id: StepId) -> usize
     requires present { IsSome (step_of (steps arena.old.keyed_steps) id) }
     requires unmarked { marked_keys arena.old.keyed_steps ≡ [] }
@@ -47,7 +48,8 @@ pub fn mark_from(arena: &mut Arena, id: StepId) -> usize
     len
 }
 
-// The role's newest marked step with its number, if it has one. It is the role's last step, since marks are closed.
+// The role's newest marked step with its number, or `None`. Marks are closed, so it can only be the role's last step.
+// O(1).
 fn newest_marked_of(arena: &Arena, role: Role) -> Option<NumberedKey>
     requires small { role < 8 }
     requires closed { AreMarksClosed arena.now.keyed_steps }
@@ -64,8 +66,8 @@ fn newest_marked_of(arena: &Arena, role: Role) -> Option<NumberedKey>
     with_number(arena, Some(key))
 }
 
-/// The newest marked step, where each step that depends on a marked one is marked. So nothing
-/// depends on it, and it may be removed.
+/// The newest marked step, or `None`, where marks are closed. So nothing depends on it, and it may be removed. O(1):
+/// the last steps of 8 roles are compared.
 pub fn newest_marked(arena: &Arena) -> Option<Key>
     requires closed { AreMarksClosed arena.now.keyed_steps }
     ensures newest { result ≡ last_key None (marked_keys arena.now.keyed_steps) }
@@ -81,7 +83,8 @@ pub fn newest_marked(arena: &Arena) -> Option<Key>
     key_of(newest)
 }
 
-// Takes the marks of a role off, from its last step back to the first marked one.
+// Clears the marks of a role, from its last step back to the first unmarked one. O(marked steps of the role). Marks are
+// closed, so none stands before that.
 fn unmark_role(arena: &mut Arena, role: Role)
     requires small { role < 8 }
     requires last { AreLastMarked role arena.old.keyed_steps }
@@ -106,7 +109,7 @@ fn unmark_role(arena: &mut Arena, role: Role)
     }
 }
 
-/// Takes all marks off, where each step that depends on a marked one is marked. Unproved: no
+/// Clears all marks, where marks are closed. It does not allocate, and can't fail. Unproved: O(marked steps), no
 /// unmarked step is looked at but one of each role.
 pub fn unmark(arena: &mut Arena)
     requires closed { AreMarksClosed arena.old.keyed_steps }

@@ -14,7 +14,8 @@ pub(crate) struct NumberedKey {
     pub(crate) id: StepId,
 }
 
-/// The key with the number of its step, where there is a key.
+/// The key with the number of its step, or `None` without a key. The number is read once, and then compared several
+/// times.
 pub(crate) fn with_number(arena: &Arena, key: Option<Key>) -> Option<NumberedKey>
     requires { IfSome key (λ key. IsSome (keyed_at key arena.now.keyed_steps)) }
     ensures key { key_of result ≡ key }
@@ -27,14 +28,14 @@ pub(crate) fn with_number(arena: &Arena, key: Option<Key>) -> Option<NumberedKey
     Some(NumberedKey { key, id })
 }
 
-/// The key without its number, where there is one.
+/// The key without its number, or `None`: what callers outside need of the comparison.
 pub(crate) fn key_of(newest: Option<NumberedKey>) -> Option<Key>
     ensures { result ≡ key_of newest }
 {
     Some(newest?.key)
 }
 
-/// Of two steps the one with the smaller number; the only one where there is one alone.
+/// The step with the smaller number; with one alone that one, with none `None`. So a minimum begins with `None`.
 pub(crate) fn earlier(a: Option<NumberedKey>, b: Option<NumberedKey>) -> Option<NumberedKey>
     ensures { (es : List KeyedStep) → HasNumber es a → HasNumber es b
         → (key_of result ≡ earlier es (key_of a) (key_of b)) × HasNumber es result }
@@ -46,7 +47,7 @@ pub(crate) fn earlier(a: Option<NumberedKey>, b: Option<NumberedKey>) -> Option<
     }
 }
 
-/// Of two steps the one with the larger number; the only one where there is one alone.
+/// The step with the larger number; with one alone that one, with none `None`. So a maximum begins with `None`.
 pub(crate) fn later(a: Option<NumberedKey>, b: Option<NumberedKey>) -> Option<NumberedKey>
     ensures { (es : List KeyedStep) → HasNumber es a → HasNumber es b
         → (key_of result ≡ later es (key_of a) (key_of b)) × HasNumber es result }

@@ -8,7 +8,7 @@ ghost use Rattle.mps_links.specs.Private.Pending.{followed, earliest};
 use crate::order::{NumberedKey, earlier, key_of, with_number};
 use mps_arena::{Arena, Key, steps_are_sound};
 
-// The place of the role whose step has the key.
+// The place, from 0, of the role whose step has the key, as an index of arrays; the step has to be there.
 fn role_at(arena: &Arena, key: Key) -> usize
     requires { IsSome (keyed_at key arena.now.keyed_steps) }
     ensures role { option_map (λ e. e.step.role) (keyed_at key arena.now.keyed_steps) ≡ Some result }
@@ -19,14 +19,15 @@ fn role_at(arena: &Arena, key: Key) -> usize
     arena.get(key).role.index()
 }
 
-/// For each role its first step that isn't marked and depends directly on a marked one.
+/// The frontier of the walk in `mark_from`: for each role its first step that isn't marked and depends directly on a
+/// marked one.
 #[derive(Drop)]
 pub(crate) struct Pending {
     firsts: [Option<NumberedKey>; 8],
 }
 
 impl Pending {
-    /// What is pending while no step is marked: nothing.
+    /// The frontier before any step is marked: empty. It is kept inline, and does not allocate.
     pub(crate) fn new() -> Pending
         ensures size { length result.firsts ≡ 8 }
         ensures keys { keys_alone result.firsts ≡ replicate 8 None }
@@ -35,7 +36,8 @@ impl Pending {
         Pending { firsts: [None; 8] }
     }
 
-    /// The key of the earliest pending step, if there is one.
+    /// The key of the step of the frontier with the least number, or `None` where it is empty. O(1): 8 roles are
+    /// compared.
     pub(crate) fn earliest(&self) -> Option<Key>
         requires size { length self.now.firsts ≡ 8 }
         ensures { (es : List KeyedStep) → HaveNumbers es self.now.firsts
@@ -51,8 +53,8 @@ impl Pending {
         key_of(first)
     }
 
-    /// Notes that the earliest pending step, or the one to begin with, is marked: its role's next step and its receipt
-    /// depend on it, so they are pending now.
+    /// Moves the frontier past a step that is being marked, the earliest of it: its role's next step comes in its
+    /// place, and its receipt is one more candidate for the role that received. O(1).
     #[inline(always)]
     pub(crate) fn follow(&mut self, arena: &Arena, key: Key)
         requires size { length self.old.firsts ≡ 8 }

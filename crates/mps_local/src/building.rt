@@ -7,8 +7,8 @@ use mps_base::{Name, Role, Sort, VarName};
 use std::alloc::{AllocError, Global};
 
 impl Local {
-    /// `rec` of the variable, and then the body, in which the variable stands for the whole. The body is dropped where
-    /// memory runs out.
+    /// Builds `rec name . body`; in the body the variable stands for the whole. One box is allocated. When out of
+    /// memory the body is dropped. Nothing is checked here: `first_fault` does that.
     pub fn rec(alloc: Global, name: VarName, body: Local) -> Result<Local, AllocError>
         ensures { IfOk result (λ t. plain t ≡ Rec name (plain body)) }
     {
@@ -16,7 +16,8 @@ impl Local {
         Ok(Local::Rec(name, body))
     }
 
-    /// An output of a value of the sort to the peer, and then `next`, which is dropped where memory runs out.
+    /// Builds an output of a value of the sort to the peer, and then `next`. One box is allocated. When out of memory
+    /// `next` is dropped. Nothing is checked here: `first_fault` does that.
     pub fn send(alloc: Global, peer: Role, sort: Sort, next: Local) -> Result<Local, AllocError>
         ensures { IfOk result (λ t. plain t ≡ Send peer sort (plain next)) }
     {
@@ -24,7 +25,8 @@ impl Local {
         Ok(Local::Send { peer, sort, next })
     }
 
-    /// An input of a value of the sort from the peer, and then `next`, which is dropped where memory runs out.
+    /// Builds an input of a value of the sort from the peer, and then `next`. One box is allocated. When out of memory
+    /// `next` is dropped. Nothing is checked here: `first_fault` does that.
     pub fn recv(alloc: Global, peer: Role, sort: Sort, next: Local) -> Result<Local, AllocError>
         ensures { IfOk result (λ t. plain t ≡ Recv peer sort (plain next)) }
     {
@@ -34,7 +36,8 @@ impl Local {
 }
 
 impl Branches {
-    /// A branch in front of the others. What follows its label, and the others, are dropped where memory runs out.
+    /// Builds branches from the first, a label and what follows it, and the others. Two boxes are allocated. When out
+    /// of memory both trees are dropped. Equal labels are not refused here: `first_fault` does that.
     pub fn more(
         alloc: Global,
         label: Name,

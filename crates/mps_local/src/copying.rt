@@ -11,26 +11,29 @@ use crate::{Branches, Local};
 use std::alloc::{AllocError, Global};
 
 impl Local {
-    /// A copy of the type. It is made in a loop, so a deep or wide type doesn't overflow the stack.
+    /// A copy of the type, made in a loop: recursion would overflow the stack on a deep or wide type. O(nodes) time and
+    /// memory. It fails only when out of memory, and drops what was made so far.
     pub fn copy(&self, alloc: Global) -> Result<Local, AllocError>
         ensures { IfOk result (λ t. plain t ≡ plain self.now) }
     {
-        let mut made = make(alloc, Todo::Tree(self))?;
+        let mut made = make_copy(alloc, Todo::Tree(self))?;
         Ok(made.take_tree())
     }
 }
 
 impl Branches {
-    /// A copy of the branches. It is made in a loop, so deep or wide types don't overflow the stack.
+    /// A copy of the branches, made in a loop as `Local::copy` is. O(nodes) time and memory. It fails only when out of
+    /// memory, and drops what was made so far.
     pub fn copy(&self, alloc: Global) -> Result<Branches, AllocError>
         ensures { IfOk result (λ b. plain_branches b ≡ plain_branches self.now) }
     {
-        let mut made = make(alloc, Todo::Branches(self))?;
+        let mut made = make_copy(alloc, Todo::Branches(self))?;
         Ok(made.take_branches())
     }
 }
 
-/// Copies of the types, in order.
+/// Copies of the types, in order, in a vector of exactly that size. It fails only when out of memory, and drops the
+/// copies made so far.
 pub fn copy_all(alloc: Global, types: &[Local]) -> Result<Vec<Local>, AllocError>
     ensures { IfOk result (λ made. map plain made.items ≡ map plain types.now) }
 {
@@ -58,10 +61,10 @@ struct Made {
     branches: Vec<Branches>,
 }
 
-// Makes a copy of what `first` stands for. What waits is a stack: what a node needs is put there after the node, so it
-// is made before.
+// The loop of both copies: makes a copy of what `first` stands for. The stack `waiting` has a node below what the node
+// needs, so parts are made before their whole (post-order). It fails only when out of memory.
 #[tactic(auto, using(crate::proofs::Copied::all_more, crate::proofs::Copied::weight_more))]
-fn make(alloc: Global, first: Todo<'_>) -> Result<Made, AllocError>
+fn make_copy(alloc: Global, first: Todo<'_>) -> Result<Made, AllocError>
     ensures { IfOk result (λ made. stacks made ≡ with_next first.entry nothing_made) }
 {
     let mut made = Made {
@@ -81,7 +84,8 @@ fn make(alloc: Global, first: Todo<'_>) -> Result<Made, AllocError>
     Ok(made)
 }
 
-// Puts a tree's first node on the stack of what waits, and then what stands below it, which is made first.
+// Pushes a tree's first node, and above it what stands below in the tree, which is popped and made first. After an
+// error the stack may have the node alone; the copy is given up then.
 #[tactic(auto, using(crate::proofs::Copied::all_more, crate::proofs::Copied::weight_more))]
 fn open_tree<'a>(tree: &'a Local, waiting: &mut Vec<Todo<'a>>) -> Result<(), AllocError>
     ensures made { OnOk result ((s : Stacks) → with_all waiting.new.items s
@@ -101,7 +105,8 @@ fn open_tree<'a>(tree: &'a Local, waiting: &mut Vec<Todo<'a>>) -> Result<(), All
     }
 }
 
-// Puts the first of the branches on the stack of what waits, and then the others and its tree, which are made first.
+// Pushes the first branch, and above it the others and the branch's tree, which are popped and made first. After an
+// error the stack may have some of the three; the copy is given up then.
 #[tactic(auto, using(crate::proofs::Copied::all_more, crate::proofs::Copied::weight_more))]
 fn open_branches<'a>(branches: &'a Branches, waiting: &mut Vec<Todo<'a>>) -> Result<(), AllocError>
     ensures made { OnOk result ((s : Stacks) → with_all waiting.new.items s
@@ -121,7 +126,8 @@ fn open_branches<'a>(branches: &'a Branches, waiting: &mut Vec<Todo<'a>>) -> Res
 }
 
 impl Made {
-    // Makes a node like this one, of what was made last, and puts it with the trees that are made.
+    // Pushes a copy of this node, whose parts are those made last, on the trees that are made. It fails only when out
+    // of memory; the copy is given up then.
     fn make_node(&mut self, alloc: Global, like: &Local) -> Result<(), AllocError>
         ensures { OnOk result (stacks self.new ≡ with_node like.now (stacks self.old)) }
     {
@@ -129,7 +135,8 @@ impl Made {
         Ok(self.trees.push(node)?)
     }
 
-    // Makes a node like this one: what stands below it is what was made last, which is taken away.
+    // A copy of this node, whose parts are those made last: they are popped, and dropped when out of memory. Apart from
+    // `make_node`, so that each case needs no push of its own.
     fn node(&mut self, alloc: Global, like: &Local) -> Result<Local, AllocError>
         ensures { IfOk result (λ t. with_tree (plain t) (stacks self.new)
             ≡ with_node like.now (stacks self.old)) }
@@ -151,8 +158,8 @@ impl Made {
         }
     }
 
-    // Makes a branch like the first of these, of the tree and the branches that were made last, or no branches where
-    // there is none. It puts them with the branches that are made.
+    // Pushes a copy of the first of these branches, made of the tree and the branches made last; or no branches where
+    // there is none. It fails only when out of memory; the copy is given up then.
     fn make_arm(&mut self, alloc: Global, like: &Branches) -> Result<(), AllocError>
         ensures { OnOk result (stacks self.new ≡ with_arm like.now (stacks self.old)) }
     {
@@ -166,8 +173,8 @@ impl Made {
         }
     }
 
-    // Takes the tree that was made last. Where there is none it gives an end, as the definition `last_tree` does, so no
-    // proof has to show that there is one.
+    // Pops the tree made last. `make_copy` has always made one; without one it would give `End`, as the definition
+    // `last_tree` does, so that no proof has to show that there is one.
     fn take_tree(&mut self) -> Local
         ensures taken { plain result ≡ last_tree (stacks self.old) }
         ensures left { stacks self.new ≡ without_tree (stacks self.old) }
@@ -178,8 +185,8 @@ impl Made {
         }
     }
 
-    // Takes the branches that were made last. Where there are none it gives no branches, as the definition
-    // `last_branches` does, so no proof has to show that there are some.
+    // Pops the branches made last. `make_copy` has always made some; without any it would give `NoMore`, as the definition
+    // `last_branches` does, so that no proof has to show that there are some.
     fn take_branches(&mut self) -> Branches
         ensures taken { plain_branches result ≡ last_branches (stacks self.old) }
         ensures left { stacks self.new ≡ without_branches (stacks self.old) }

@@ -5,7 +5,8 @@ ghost use Rattle.mps_local.specs.Projection.{same, same_branches};
 
 use crate::{Branches, Local};
 
-/// Whether two types are the same tree, down to the names of variables.
+/// Whether two types are the same tree, with the same names of variables: so `rec X . X` and `rec Y . Y` differ, though
+/// they mean the same. For merging, which asks for equal trees. The recursion is as deep as the smaller tree.
 #[cycle(same)]
 pub(crate) fn same(one: &Local, other: &Local) -> bool
     ensures { result ≡ same (plain one.now) (plain other.now) }
@@ -13,42 +14,43 @@ pub(crate) fn same(one: &Local, other: &Local) -> bool
     match (one, other) {
         (Local::End, Local::End) => true,
         (Local::Var(x), Local::Var(y)) => x.is(y),
-        (Local::Rec(x, body), Local::Rec(y, rest)) => x.is(y) && same(body, rest),
+        (Local::Rec(x, body), Local::Rec(y, other_body)) => x.is(y) && same(body, other_body),
         (
             Local::Send { peer, sort, next },
             Local::Send {
-                peer: from,
-                sort: of,
-                next: rest,
+                peer: other_peer,
+                sort: other_sort,
+                next: other_next,
             },
         )
         | (
             Local::Recv { peer, sort, next },
             Local::Recv {
-                peer: from,
-                sort: of,
-                next: rest,
+                peer: other_peer,
+                sort: other_sort,
+                next: other_next,
             },
-        ) => peer.is(*from) && sort.is(*of) && same(next, rest),
+        ) => peer.is(*other_peer) && sort.is(*other_sort) && same(next, other_next),
         (
             Local::Select { peer, branches },
             Local::Select {
-                peer: from,
-                branches: rest,
+                peer: other_peer,
+                branches: other_branches,
             },
         )
         | (
             Local::Branch { peer, branches },
             Local::Branch {
-                peer: from,
-                branches: rest,
+                peer: other_peer,
+                branches: other_branches,
             },
-        ) => peer.is(*from) && same_branches(branches, rest),
+        ) => peer.is(*other_peer) && same_branches(branches, other_branches),
         _ => false,
     }
 }
 
-// Whether two lists of branches have the same labels in the same order, and after each the same type.
+// Whether both have the same labels in the same order, and after each the same type. The same labels in another order
+// differ.
 #[cycle(same)]
 fn same_branches(one: &Branches, other: &Branches) -> bool
     ensures { result ≡ same_branches (plain_branches one.now) (plain_branches other.now) }
@@ -62,11 +64,13 @@ fn same_branches(one: &Branches, other: &Branches) -> bool
                 others,
             },
             Branches::More {
-                label: name,
-                next: rest,
-                others: more,
+                label: other_label,
+                next: other_next,
+                others: other_branches,
             },
-        ) => label.is(name) && same(next, rest) && same_branches(others, more),
+        ) => label.is(other_label)
+            && same(next, other_next)
+            && same_branches(others, other_branches),
         _ => false,
     }
 }

@@ -11,7 +11,8 @@ ghost use Rattle.mps_local.specs.Examples.{relay, ok_or_no, loops, ping, ping_po
 ghost use Rattle.mps_local.specs.Examples.{go_or_stop, asking, asked, turns, inner_turn};
 ghost use Rattle.mps_local.specs.Unfolding.{unfolded};
 
-/// What roles do in short protocols, as worked out by hand.
+/// What roles do in short protocols, as worked out by hand: tests of the definition of projection, checked by the
+/// prover.
 pub fn worked_projections()
     ensures relay_of_a { Does at_a relay (Send at_b Int (Branch at_c ok_or_no)) }
     ensures relay_of_b { Does at_b relay (Recv at_a Int (Send at_c Int End)) }
@@ -46,7 +47,8 @@ pub fn worked_projections()
     ensures ending_alone { CantMergeFirst (chosen (int_to a c over) over) }
 {}
 
-/// What short types allow first and what follows it, as worked out by hand.
+/// What short types allow first and what follows it, as worked out by hand: tests of the definition of unfolding,
+/// checked by the prover.
 pub fn worked_actions()
     ensures end { (head End ≡ Ends) × (type_left End None ≡ None)
         × (type_left End (Some 0) ≡ None) }

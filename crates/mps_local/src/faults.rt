@@ -50,14 +50,14 @@ impl From<AllocError> for LocalFault {
 
     ghost from_gives = { λ _ fault. fault ≡ Memory };
 
-    // A failed allocation is `Memory`.
+    // Lets `?` turn a failed allocation into `Memory`.
     fn from(_: AllocError) -> LocalFault {
         LocalFault::Memory
     }
 }
 
-/// The first fault of a local type, if it has one: of its size, then of its nodes in preorder. The type may be of any
-/// size: nothing goes more than 257 nodes deep into it.
+/// The first fault of a local type, or `None`: of its size, then of its nodes in preorder. It does not allocate, and is
+/// never `Memory`. The type may be of any size: nothing goes more than 257 nodes deep into it.
 pub fn first_fault(t: &Local) -> Option<LocalFault>
     ensures { result ≡ local_fault_of (plain t.now) }
 {
@@ -70,9 +70,9 @@ pub fn first_fault(t: &Local) -> Option<LocalFault>
     fault_in(t, &Above::Root)
 }
 
-/// What holds of a type without faults, and of no other: each variable stands in its `rec` and
-/// after an act of it, no `rec` has the variable of one around it, each choice has 1 to 16 labels
-/// that differ, and the type is within the limits.
+/// A law: a type has no fault exactly where each variable stands in its `rec` and after an act of it (it is closed and
+/// contractive), no `rec` has the variable of one around it, each choice has 1 to 16 labels that differ, and the type
+/// is within the limits.
 pub fn local_fault_laws()
     ensures closed { (t : LocalType) → local_fault_of t ≡ None → is_closed [] t ≡ true }
     ensures guarded { (t : LocalType) → local_fault_of t ≡ None → is_guarded t ≡ true }
@@ -88,22 +88,23 @@ pub fn local_fault_laws()
     ensures memory { (t : LocalType) → local_fault_of t ≢ Some Fault.Memory }
 {}
 
-/// The size of a type by the list of its nodes: `places` lists as many nodes as `node_count` says, and the greatest
-/// `level` in it is `depth`.
+/// A law: `places` lists as many nodes as `node_count` says, and the greatest `level` in it is `depth`. So limits on
+/// the two are limits on walks over the list.
 pub fn local_size_laws()
     ensures nodes { (t : LocalType) → length (places [] t) ≡ node_count t }
     ensures levels { (t : LocalType) → greatest (map level (places [] t)) ≡ depth t }
 {}
 
-/// The projection of a protocol without faults to a role, where there is one, has no fault as a local type.
+/// A law: the projection of a protocol without faults to a role, where there is one, has no fault as a local type. So
+/// it needs no check of its own.
 pub fn projections_have_no_fault()
     ensures { (roles : List (List ℕ)) (role : ℕ) (tree : GlobalType) (t : LocalType)
         → fault_of roles tree ≡ None → projection roles role tree ≡ Some t
         → local_fault_of t ≡ None }
 {}
 
-// What is left of the limit after each node has taken 1, or `None` where the nodes are more. It goes no deeper than the
-// limit.
+// What is left of `limit` after each node of the type has taken 1, or `None` where there are more nodes. Counting down,
+// and not up, ends the walk after `limit` nodes, so no type overflows the stack.
 #[cycle(nodes)]
 #[tactic(auto, using(crate::proofs::Sizes::some_node))]
 fn nodes_left(t: &Local, limit: usize) -> Option<usize>
@@ -125,7 +126,7 @@ fn nodes_left(t: &Local, limit: usize) -> Option<usize>
     }
 }
 
-// What is left of the limit after each node of the branches has taken 1, or `None` where the nodes are more.
+// `nodes_left` for the types of a choice's branches, one after the other; the branches themselves take nothing.
 #[cycle(nodes)]
 fn branch_nodes_left(branches: &Branches, limit: usize) -> Option<usize>
     ensures { MatchOption result
@@ -141,7 +142,7 @@ fn branch_nodes_left(branches: &Branches, limit: usize) -> Option<usize>
     }
 }
 
-// Whether no path from the root has more nodes than the limit.
+// Whether no path from the root has more nodes than `limit`: the test of `TooDeep`. It goes no deeper than that.
 #[cycle(levels)]
 #[tactic(auto, using(crate::proofs::Sizes::some_depth))]
 fn is_within(t: &Local, limit: usize) -> bool
@@ -161,7 +162,7 @@ fn is_within(t: &Local, limit: usize) -> bool
     }
 }
 
-// Whether no path of the branches has more nodes than the limit.
+// `is_within` for each type of a choice's branches, which take no level themselves.
 #[cycle(levels)]
 fn are_within(branches: &Branches, limit: usize) -> bool
     ensures { IsTrue result ↔ (branch_depth (plain_branches branches.now) ≤ limit) }
@@ -172,7 +173,8 @@ fn are_within(branches: &Branches, limit: usize) -> bool
     }
 }
 
-// The fault of the first faulty node of the type in preorder, if there is one. `above` is the path to the type.
+// The fault of the first faulty node in preorder, or `None`. `above` is the path from the root to the type, which tells
+// which variables are bound and guarded. Only types within both limits get here.
 #[cycle(walk)]
 fn fault_in(t: &Local, above: &Above<'_>) -> Option<LocalFault>
     ensures { result ≡ fault_at (places (edges above.now) (plain t.now)) }
@@ -192,7 +194,7 @@ fn fault_in(t: &Local, above: &Above<'_>) -> Option<LocalFault>
     }
 }
 
-// The fault of the first faulty node of the branches in preorder, if there is one. `above` is the path to them.
+// `fault_in` for the types of a choice's branches, in order. `above` is the path to them, the choice with it.
 #[cycle(walk)]
 #[tactic(auto, using(crate::proofs::Faulty::first_of_both))]
 fn fault_in_branches(branches: &Branches, above: &Above<'_>) -> Option<LocalFault>
@@ -208,7 +210,8 @@ fn fault_in_branches(branches: &Branches, above: &Above<'_>) -> Option<LocalFaul
     }
 }
 
-// The fault of the node itself, if it has one, whatever stands below it. `above` is the path to the node.
+// The first fault of the node alone, whatever stands below it, or `None`. `above` is the path from the root to the
+// node.
 fn node_fault(node: &Local, above: &Above<'_>) -> Option<LocalFault>
     ensures { result ≡ first_true (node_tests (edges above.now) (plain node.now)) }
 {
@@ -220,7 +223,8 @@ fn node_fault(node: &Local, above: &Above<'_>) -> Option<LocalFault>
     }
 }
 
-// The fault of a variable: no `rec` of it stands on the path `above`, or no act between that and the variable.
+// The fault of a variable on the path `above`: `Unbound` where no `rec` of it stands there, else `Unguarded` where no
+// act comes between (contractiveness).
 fn variable_fault(name: &VarName, above: &Above<'_>) -> Option<LocalFault>
     ensures { result ≡ first_true (variable_tests name.now (edges above.now)) }
 {
@@ -233,7 +237,8 @@ fn variable_fault(name: &VarName, above: &Above<'_>) -> Option<LocalFault>
     None
 }
 
-// The fault of a `rec` of that variable: another `rec` of it stands on the path `above`.
+// `Shadowed` where another `rec` of the variable stands on the path `above`, else `None`. So a variable's name says
+// which `rec` it means.
 fn rec_fault(name: &VarName, above: &Above<'_>) -> Option<LocalFault>
     ensures { result ≡ first_true (rec_tests name.now (edges above.now)) }
 {
@@ -243,7 +248,7 @@ fn rec_fault(name: &VarName, above: &Above<'_>) -> Option<LocalFault>
     None
 }
 
-// What is wrong with the labels of a choice, if anything: one stands twice, they are too many, or there is none.
+// The fault of a choice's labels, the first that applies: one stands twice, they are more than 16, or there is none.
 fn label_fault(branches: &Branches) -> Option<LocalFault>
     ensures { result ≡ first_true (label_tests (labels (plain_branches branches.now))) }
 {
@@ -259,7 +264,8 @@ fn label_fault(branches: &Branches) -> Option<LocalFault>
     }
 }
 
-// Whether a label stands twice in the branches.
+// Whether a label stands twice: each is compared with those after it, O(branches^2). Only types of at most 256 nodes
+// get here.
 fn has_double_label(branches: &Branches) -> bool
     ensures { result ≡ has_double (labels (plain_branches branches.now)) }
 {
@@ -270,7 +276,7 @@ fn has_double_label(branches: &Branches) -> bool
     }
 }
 
-// Whether a branch has that label.
+// Whether one of the branches has that label, compared one by one. O(branches).
 fn has_label(branches: &Branches, label: &Name) -> bool
     ensures { result ≡ is_among (labels (plain_branches branches.now)) label.now }
 {
@@ -284,7 +290,8 @@ fn has_label(branches: &Branches, label: &Name) -> bool
     }
 }
 
-// Whether the branches are more than the limit. One more than the limit are looked at, at most.
+// Whether there are more branches than `limit`. It looks at no more than `limit` + 1 of them, so a long list costs no
+// more.
 fn has_more_than(branches: &Branches, limit: usize) -> bool
     ensures { result ≡ nat_lt limit (length (labels (plain_branches branches.now))) }
 {

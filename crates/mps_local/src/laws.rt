@@ -7,8 +7,8 @@ ghost use Rattle.mps_local.specs.Local.{LocalType, Branches};
 ghost use Rattle.mps_local.specs.Actions.{branch_at, labels, nexts};
 ghost use Rattle.mps_local.specs.Projection.{same, same_branches, merged, projection, examined, first_unmerged};
 
-/// Labels lead to what stands after them. Each label has its type in the same place; where no
-/// label stands twice, that is what follows the label, and what follows a label stands after it.
+/// A law: each label has its type at the same place; where no label stands twice, that is what follows the label. So a
+/// branch may be found by the place of its label.
 pub fn labels_lead()
     ensures paired { (b : Branches) → length (nexts b) ≡ length (labels b) }
     ensures lead { (b : Branches) (place : ℕ) (label : List ℕ) → AreDistinct (labels b)
@@ -18,20 +18,21 @@ pub fn labels_lead()
         × (slice_get (nexts b) place ≡ Some t) }
 {}
 
-/// Two types, or two lists of branches, are the same exactly where they are equal: the test passes
-/// over no node, and over nothing that stands in one.
+/// A law: `same` and `same_branches` are equality of types and of branches: they pass over no node, and over nothing in
+/// one.
 pub fn same_is_equality()
     ensures types { (t u : LocalType) → (same t u ≡ true) ↔ (t ≡ u) }
     ensures branches { (b c : Branches) → (same_branches b c ≡ true) ↔ (b ≡ c) }
 {}
 
-/// Branches merge to a type exactly where there is one at least, and each goes on with that type.
+/// A law: branches merge to a type exactly where there is at least one, and each goes on with that type: plain merging.
 pub fn merging_is_equality()
     ensures merged { (b : Branches) (t : LocalType) → (merged b ≡ Some t)
         ↔ ((nexts b ≢ []) × AllByRecursion (λ u. u ≡ t) (nexts b)) }
 {}
 
-/// Where a role has no projection, a choice is named, and only there, whatever number the first choice has.
+/// A law: where a role has no projection a choice is named, and only there, whatever number the first choice has. So
+/// each refusal of `project` has a place.
 pub fn unmerged_is_named()
     ensures named { (roles : List (List ℕ)) (role number : ℕ) (tree : GlobalType)
         → projection roles role tree ≡ None

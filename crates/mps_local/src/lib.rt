@@ -78,8 +78,8 @@ pub enum Branches {
 }
 
 impl Drop for Local {
-    // Drops the tree in a loop, so that none, long, deep or wide, runs the stack out: what still waits stands in a list
-    // of branches, made of the boxes that are there.
+    // Drops the tree in a loop, since a recursive drop would overflow the stack on a long or deep tree. It does not
+    // allocate: trees that still wait hang in boxes that are there already.
     #[tactic(auto, using(crate::proofs::Weights::some_weight))]
     fn drop(mut self) {
         let mut waiting = Branches::NoMore;
@@ -125,7 +125,8 @@ impl Drop for Local {
 }
 
 impl Drop for Branches {
-    // Drops the branches in a loop, one after the other; the tree of each is dropped in a loop too.
+    // Drops the branches in a loop, one after the other, since a recursive drop would overflow the stack; the tree of
+    // each is dropped in a loop too.
     fn drop(mut self) {
         loop {
             match self {
@@ -144,7 +145,8 @@ impl Drop for Branches {
 }
 
 impl Branches {
-    /// The first branch, in its parts, and the others, where there is one.
+    /// Takes the first branch apart: its label, what follows it, and the others; `None` where there is no branch.
+    /// Apart, since its contract says how much is left, by which the loops of `drop` and `names_others` end.
     pub(crate) fn first(self) -> Option<(Name, Box<Local>, Box<Branches>)>
         ensures weight { MatchOption result
             ((branch_weight self ≡ 1) × (waiting_weight self ≡ 0))

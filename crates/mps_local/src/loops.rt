@@ -18,8 +18,8 @@ enum Bound<'a> {
     Inside(&'a VarName, &'a Bound<'a>),
 }
 
-/// Whether the loop `rec name . body` is the end for the role: the role takes no part in it, and it has no free
-/// variable.
+/// Whether the loop `rec name . body` projects to the end for the role: the role neither sends nor receives in the
+/// body, and no variable of an outer loop stands there. Without this rule its projection would be an unguarded loop.
 pub(crate) fn is_idle(roles: &[Name], name: &VarName, body: &Global, role: Role) -> bool
     requires few { length roles.now ≤ 8 }
     ensures { result ≡ is_idle roles.now role name.now (plain body.now) }
@@ -27,7 +27,8 @@ pub(crate) fn is_idle(roles: &[Name], name: &VarName, body: &Global, role: Role)
     !occurs(roles, body, role) && is_closed(body, &Bound::Inside(name, &Bound::Nothing))
 }
 
-// Whether the role sends or receives anywhere in the tree.
+// Whether the role sends or receives anywhere in the tree. O(nodes); the recursion is as deep as the tree, at most 64
+// levels.
 #[cycle(occurs)]
 fn occurs(roles: &[Name], tree: &Global, role: Role) -> bool
     requires few { length roles.now ≤ 8 }
@@ -58,7 +59,7 @@ fn occurs(roles: &[Name], tree: &Global, role: Role) -> bool
     }
 }
 
-// Whether the role sends or receives anywhere in the branches.
+// `occurs` for the trees of a choice's branches: whether the role sends or receives in one of them.
 #[cycle(occurs)]
 fn occurs_in(roles: &[Name], branches: &Branches, role: Role) -> bool
     requires few { length roles.now ≤ 8 }
@@ -72,7 +73,8 @@ fn occurs_in(roles: &[Name], branches: &Branches, role: Role) -> bool
     }
 }
 
-// Whether each variable of the tree stands in a `rec` of it, or is one of `bound`.
+// Whether each variable of the tree stands in a `rec` of it, or is one of `bound`: it has no free variable. The
+// recursion is as deep as the tree, at most 64 levels.
 #[cycle(closed)]
 fn is_closed(tree: &Global, bound: &Bound<'_>) -> bool
     ensures { result ≡ is_closed (names_bound bound.now) (plain tree.now) }
@@ -86,7 +88,7 @@ fn is_closed(tree: &Global, bound: &Bound<'_>) -> bool
     }
 }
 
-// Whether each variable of the branches stands in a `rec` of them, or is one of `bound`.
+// `is_closed` for each tree of a choice's branches, under the same `bound`.
 #[cycle(closed)]
 fn are_closed(branches: &Branches, bound: &Bound<'_>) -> bool
     ensures { result ≡ are_closed (names_bound bound.now) (plain_branches branches.now) }
@@ -99,7 +101,7 @@ fn are_closed(branches: &Branches, bound: &Bound<'_>) -> bool
     }
 }
 
-// Whether the variable is one of `bound`.
+// Whether the variable is one of `bound`, a linked list on the stack, so that a walk needs no memory.
 fn is_bound(name: &VarName, bound: &Bound<'_>) -> bool
     ensures { result ≡ list_any (bytes_eq name.now) (names_bound bound.now) }
 {
@@ -109,7 +111,8 @@ fn is_bound(name: &VarName, bound: &Bound<'_>) -> bool
     }
 }
 
-/// How many choices the tree has, which is at most 256.
+/// How many choices the tree has, at most 256. The first choice after the tree gets its number by it, where the tree is
+/// skipped.
 #[cycle(choices)]
 pub(crate) fn choice_count(tree: &Global) -> usize
     requires few { choice_count (plain tree.now) ≤ 256 }
@@ -122,7 +125,7 @@ pub(crate) fn choice_count(tree: &Global) -> usize
     }
 }
 
-// How many choices the branches have, which is at most 256.
+// `choice_count` for the trees of a choice's branches, added up.
 #[cycle(choices)]
 fn branch_choices(branches: &Branches) -> usize
     requires few { branch_choices (plain_branches branches.now) ≤ 256 }

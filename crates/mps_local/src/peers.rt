@@ -7,7 +7,8 @@ use crate::{Branches, Local};
 use mps_base::Role;
 use std::mem;
 
-/// Whether the peer is one of the first `count` roles, and another than `role`.
+/// Whether the peer may stand in the type of the role at place `role` of `count` roles: it is one of them, and another
+/// than `role`.
 pub fn is_other(count: usize, role: usize, peer: Role) -> bool
     ensures { IsTrue result ↔ IsOtherRole count role peer }
 {
@@ -15,8 +16,8 @@ pub fn is_other(count: usize, role: usize, peer: Role) -> bool
 }
 
 impl Local {
-    /// Whether each peer that the type names is one of the first `count` roles, and another than `role`. It takes the
-    /// type apart in a loop, and drops it, so it needs neither stack nor memory, whatever the type's size and shape.
+    /// Whether each peer in the type is one of the first `count` roles, and another than `role`. The type is taken
+    /// apart in a loop and dropped, so it needs neither stack nor memory, whatever its size and shape. O(nodes).
     #[tactic(auto, using(crate::proofs::Weights::some_weight))]
     pub fn names_others(mut self, count: usize, role: usize) -> bool
         ensures { IsTrue result ↔ AllPeers (IsOtherRole count role) (plain self) }

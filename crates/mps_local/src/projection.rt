@@ -37,7 +37,7 @@ impl From<AllocError> for ProjectFault {
 
     ghost from_gives = { λ _ fault. fault ≡ Memory };
 
-    // A failed allocation is `Memory`.
+    // Lets `?` turn a failed allocation into `Memory`.
     fn from(_: AllocError) -> ProjectFault {
         ProjectFault::Memory
     }
@@ -48,14 +48,15 @@ impl<T: Drop> From<AllocFailed<T>> for ProjectFault {
 
     ghost from_gives = { λ _ fault. fault ≡ Memory };
 
-    // A failed allocation is `Memory`; what it gives back is dropped.
+    // Lets `?` turn a failed allocation into `Memory`; what the allocation gives back is dropped.
     fn from(_: AllocFailed<T>) -> ProjectFault {
         ProjectFault::Memory
     }
 }
 
-/// What the role does in the protocol. Where branches can't be merged, the fault names the role and the first such
-/// choice. It takes stack for each level, of which there are at most 64.
+/// The projection of a protocol without faults to the role (Honda, Yoshida, Carbone 2008), with plain merging: the
+/// branches of a choice of others have to project to equal types. `Unmergeable` names the role and the first choice
+/// where they don't. The stack grows with the levels of the tree, of which there are at most 64.
 pub fn project(alloc: alloc::Global, protocol: &Protocol, role: Role) -> Result<Local, ProjectFault>
     requires well_formed { fault_of protocol.now.roles.items (global_type protocol.now.body) ≡ None }
     requires in_session { role < length protocol.now.roles.items }
@@ -73,8 +74,8 @@ pub fn project(alloc: alloc::Global, protocol: &Protocol, role: Role) -> Result<
     Ok(local)
 }
 
-/// What each role does in the protocol, in the order of the roles. The first role that has no projection is named, with
-/// the choice.
+/// The projections of a protocol without faults to all of its roles, in their order. The first role without a
+/// projection is named, with the choice. After an error the types made so far are dropped.
 pub fn project_all(alloc: alloc::Global, protocol: &Protocol) -> Result<Vec<Local>, ProjectFault>
     requires { fault_of protocol.now.roles.items (global_type protocol.now.body) ≡ None }
     ensures ok { IfOk result (λ types. AreProjections
@@ -93,8 +94,8 @@ pub fn project_all(alloc: alloc::Global, protocol: &Protocol) -> Result<Vec<Loca
     Ok(types)
 }
 
-/// What holds of the local types of a protocol without faults: their peers are other roles of the
-/// protocol, and they are no larger than the global type.
+/// A law: the local types of a protocol without faults name other roles of the protocol as peers, and have no more
+/// nodes and no more levels than the global type.
 pub fn projection_laws()
     ensures peers { (roles : List (List ℕ)) (role : ℕ) (tree : GlobalType) (t : LocalType)
         → fault_of roles tree ≡ None → projection roles role tree ≡ Some t
@@ -110,8 +111,8 @@ pub fn projection_laws()
         → (node_count t ≤ 256) × (depth t ≤ 64) }
 {}
 
-// Projects a tree whose first choice has the number `number`. It gives what the role does there, and the number of the
-// first choice after the tree.
+// Projects a tree whose first choice has the number `number` in the protocol, counted in preorder from 0. It returns
+// the type, and the number of the first choice after the tree, so that faults can name choices.
 #[cycle(project)]
 #[tactic(auto, using(crate::proofs::Examined::message_done, crate::proofs::Examined::choice_fails_in_a_branch, crate::proofs::Examined::choice_done, crate::proofs::Examined::choice_fails))]
 fn project_tree(
@@ -168,8 +169,8 @@ fn project_tree(
     }
 }
 
-// Projects each of the branches, of which the first choice has the number `number`. It gives what the role does in
-// each, and the number of the first choice after them.
+// `project_tree` for each of a choice's branches, in order: the first choice in them has the number `number`. It
+// returns the branches with the same labels, and the number of the first choice after them.
 #[cycle(project)]
 #[tactic(auto, using(crate::proofs::Examined::first_fails, crate::proofs::Examined::others_fail, crate::proofs::Examined::branches_done))]
 fn project_branches(
@@ -202,8 +203,8 @@ fn project_branches(
     }
 }
 
-// What the role does in a message that goes on with `rest`: its sender has an output, its receiver an input, and each
-// other role just the rest.
+// The role's type for a message and `rest` after it: an output for its sender, an input for its receiver, and just
+// `rest` for each other role. It fails only when out of memory, and drops `rest`.
 fn with_message(
     alloc: alloc::Global,
     role: Role,
@@ -223,8 +224,8 @@ fn with_message(
     Ok(rest)
 }
 
-// What the role does in a choice that goes on with `branches`: its sender chooses, its receiver picks, and any other
-// role does what is the same in each of them; `None` where they differ for such a role.
+// The role's type for a choice of these projected branches: a selection for its sender, a branching for its receiver,
+// and for each other role the one type that all branches have; `None` where theirs differ. It does not allocate.
 fn with_choice(role: Role, sender: Role, receiver: Role, branches: Branches) -> Option<Local>
     ensures { MatchOption result
         (with_choice role sender receiver (plain_branches branches) ≡ None)
@@ -245,7 +246,8 @@ fn with_choice(role: Role, sender: Role, receiver: Role, branches: Branches) -> 
     merged(branches)
 }
 
-// The one type that each branch goes on with; `None` where two differ, or there is no branch.
+// Plain merging: the one type that follows each label, or `None` where two differ or there is no branch. The other
+// copies are dropped. It does not allocate.
 fn merged(branches: Branches) -> Option<Local>
     ensures { MatchOption result
         (merged (plain_branches branches) ≡ None)
@@ -260,7 +262,8 @@ fn merged(branches: Branches) -> Option<Local>
     }
 }
 
-// Whether each branch goes on with that type.
+// Whether each branch goes on with a type equal to `first`, as a tree. The branches after the first that differs aren't
+// looked at.
 fn go_on_with(first: &Local, branches: &Branches) -> bool
     ensures { result ≡ go_on_with (plain first.now) (plain_branches branches.now) }
 {
@@ -270,7 +273,8 @@ fn go_on_with(first: &Local, branches: &Branches) -> bool
     }
 }
 
-/// The role of that name. Where there is none it is the place after the last, which is no role.
+/// The role of that name, which is its place in the list. Where no role has the name it is the place after the last,
+/// which is no role; a checked protocol has no such name.
 pub(crate) fn role_of(names: &[Name], name: &Name) -> Role
     requires few { length names.now ≤ 8 }
     ensures { result ≡ place_of names.now name.now }
@@ -279,7 +283,8 @@ pub(crate) fn role_of(names: &[Name], name: &Name) -> Role
     Role::new(place_of(names, name) as u8)
 }
 
-// The place of the first of the names that is spelled like that one, or how many the names are where none is.
+// The place of the first name that is the same, or the number of names where none is: as the definition `place_of`,
+// which is total.
 #[tactic(auto, using(crate::proofs::Places::found_place, crate::proofs::Places::no_place))]
 fn place_of(names: &[Name], name: &Name) -> usize
     ensures place { result ≡ place_of names.now name.now }
@@ -291,7 +296,8 @@ fn place_of(names: &[Name], name: &Name) -> usize
     }
 }
 
-// The place of the first of the names that is spelled like that one, if there is one.
+// The place of the first name that is the same, or `None`. Apart from `place_of`, so that the search has a contract by
+// `position` alone.
 fn position_of(names: &[Name], name: &Name) -> Option<usize>
     ensures { result ≡ position (bytes_eq name.now) names.now }
 {

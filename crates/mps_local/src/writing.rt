@@ -16,7 +16,7 @@ use mps_base::{Role, Roles, Sort, VarName};
 use std::alloc::{AllocError, Global};
 
 /// The text of a local type, whose peers are roles of these, in a buffer of its own: its tokens with one space between
-/// two, and no LF.
+/// two, and no LF. Types of any size are written. It fails only when out of memory.
 #[tactic(auto, using(crate::proofs::Written::as_text))]
 pub fn write_local(alloc: Global, roles: &Roles, tree: &Local) -> Result<Vec<u8>, AllocError>
     requires known { AllPeers (λ peer. peer < length roles.now) (plain tree.now) }
@@ -35,8 +35,8 @@ enum Todo<'a> {
     Others(&'a Branches),
 }
 
-// Writes a local type at the end of `out`, in a loop, so that no tree runs the stack out, however deep or wide it is.
-// After an error a part of it may stand there.
+// Appends a local type, in a loop with a stack on the heap, since recursion would overflow on a deep or wide type. When
+// out of memory a part may stand in `out`; the caller drops it.
 #[tactic(auto, using(crate::proofs::Written::left_more, crate::proofs::Written::weight_more))]
 fn write_tree(
     alloc: Global,
@@ -56,7 +56,8 @@ fn write_tree(
     Ok(())
 }
 
-// Writes the front of what is next, up to the types and branches in it, and puts these on the stack of what waits.
+// Pops one piece of work: appends its tokens up to the next type or branches in it, which are pushed. When out of
+// memory a part may stand in `out`; the caller drops it.
 fn write_next<'a>(
     roles: &Roles,
     next: Todo<'a>,
@@ -80,7 +81,8 @@ fn write_next<'a>(
     }
 }
 
-// Writes the front of a node, up to the type or the branches in it, which are put on the stack of what waits.
+// Appends a node's own tokens, and pushes the type or the branches after them. When out of memory a part may stand in
+// `out`; the caller drops it.
 #[tactic(auto, using(crate::proofs::Written::left_more, crate::proofs::Written::weight_more, crate::proofs::Written::more_known))]
 fn write_node<'a>(
     roles: &Roles,
@@ -124,7 +126,8 @@ fn write_node<'a>(
     }
 }
 
-// Writes the front of the first branch, up to its type, which waits, as do the others; or `}` where there is no branch.
+// Appends the first branch's label and `:`, and pushes the other branches and, above them, its type; without a branch
+// appends `}`. When out of memory a part may stand in `out`; the caller drops it.
 #[tactic(auto, using(crate::proofs::Written::left_more, crate::proofs::Written::weight_more, crate::proofs::Written::more_known, crate::proofs::Written::branches_more))]
 fn write_branches<'a>(
     roles: &Roles,
@@ -159,7 +162,8 @@ fn write_branches<'a>(
     }
 }
 
-// Writes what comes after a branch: `,` and the front of the next one, up to its type, or `}` where there is none.
+// Appends what comes after a branch: `,` and the next one as `write_branches` does, or `}` where there is none. When
+// out of memory a part may stand in `out`; the caller drops it.
 fn write_others<'a>(
     roles: &Roles,
     branches: &'a Branches,
@@ -184,7 +188,8 @@ fn write_others<'a>(
     write_branches(roles, branches, waiting, out)
 }
 
-// Writes `rec`, the variable and `.`, which stand in front of a body. After an error some of them may stand in `out`.
+// Appends `rec`, the variable and `.`: the tokens before a body. When out of memory some of them may stand in `out`;
+// the caller drops it.
 fn push_rec(out: &mut Vec<u8>, name: &VarName) -> Result<(), AllocError>
     ensures { OnOk result (out.new.items
         ≡ with_tokens out.old.items (codes "rec" ∷ name.now ∷ codes "." ∷ [])) }
@@ -194,8 +199,8 @@ fn push_rec(out: &mut Vec<u8>, name: &VarName) -> Result<(), AllocError>
     push_token(out, b".")
 }
 
-// Writes the word, the peer, the sort and `.`, which stand in front of what follows an output or an input. After an
-// error some of them may stand in `out`.
+// Appends `send` or `recv`, the peer, the sort and `.`: the tokens before what follows. When out of memory some of them
+// may stand in `out`; the caller drops it.
 fn push_value(
     out: &mut Vec<u8>,
     roles: &Roles,
@@ -214,8 +219,8 @@ fn push_value(
     push_token(out, b".")
 }
 
-// Writes the word, the peer and `{`, which stand in front of the branches of a choice. After an error some of them may
-// stand in `out`.
+// Appends `choose` or `pick`, the peer and `{`: the tokens before the branches. When out of memory some of them may
+// stand in `out`; the caller drops it.
 fn push_head(out: &mut Vec<u8>, roles: &Roles, word: &[u8], peer: Role) -> Result<(), AllocError>
     requires known { peer < length roles.now }
     ensures { OnOk result (out.new.items

@@ -15,8 +15,8 @@ use mps_base::StepId;
 use mps_links::{least_final, mark_from, newest_marked, unmark};
 
 impl Log {
-    /// Chooses the step of that number and all that depend on it, and tells how many they are. No step may be chosen
-    /// already.
+    /// Chooses the step of that number and all that depend on it, and returns how many. No step may be chosen already.
+    /// It sets flags in the arena, does not allocate, and `choose_none` undoes it. O(chosen steps).
     pub fn choose_from(&mut self, id: StepId) -> usize
         requires present { IsSome (step_of (steps self.old.keyed_steps) id) }
         requires unmarked { marked_keys self.old.keyed_steps ≡ [] }
@@ -32,8 +32,8 @@ impl Log {
         mark_from(&mut self.arena, id)
     }
 
-    /// The newest chosen step, if one is chosen, where each step that depends on a chosen one is chosen. So nothing
-    /// depends on it, and it may be removed. The clause `sound` is for callers' proofs.
+    /// The newest chosen step, or `None`, where each step that depends on a chosen one is chosen. So nothing depends on
+    /// it, and `remove` may take it. O(1). The clause `sound` is for callers' proofs.
     #[inline(always)]
     pub fn newest_chosen(&self) -> Option<Key>
         requires closed { AreMarksClosed self.now.keyed_steps }
@@ -45,8 +45,8 @@ impl Log {
         newest_marked(&self.arena)
     }
 
-    /// The least number of a chosen commit, if one is chosen, where each step that depends on a chosen one is chosen.
-    /// It does not allocate. Unproved: where no commit has ever joined it looks at no step.
+    /// The least number of a chosen commit, or `None`, where each step that depends on a chosen one is chosen. It does
+    /// not allocate. Unproved: O(1) where no commit has ever joined, else O(chosen steps).
     #[inline(always)]
     pub fn least_final(&self) -> Option<StepId>
         requires closed { AreMarksClosed self.now.keyed_steps }
@@ -58,7 +58,8 @@ impl Log {
         least_final(&self.arena)
     }
 
-    /// Leaves no step chosen. Each step that depends on a chosen one has to be chosen.
+    /// Leaves no step chosen, where each step that depends on a chosen one is chosen; steps stay. O(chosen steps), and
+    /// it can't fail.
     pub fn choose_none(&mut self)
         requires closed { AreMarksClosed self.old.keyed_steps }
         ensures keyed_steps { self.new.keyed_steps ≡ map unmarked self.old.keyed_steps }

@@ -15,7 +15,8 @@ use mps_base::{Message, Role, Step, StepId};
 use mps_links::least_dependent;
 
 impl Log {
-    /// The key of the step that has the number, if it survives. The clause `sound` is for callers' proofs.
+    /// The key of the step that has the number, or `None` where it doesn't survive. O(1), by the arena, which callers
+    /// don't see. The clause `sound` is for callers' proofs.
     #[inline(always)]
     pub fn by_id(&self, id: StepId) -> Option<Key>
         ensures key { result
@@ -25,7 +26,7 @@ impl Log {
         self.arena.by_id(id)
     }
 
-    /// The step of the key, which has to be there.
+    /// The step of the key, which has to be there (`by_id` gives such a key), borrowed from the arena. O(1).
     #[inline(always)]
     pub fn get(&self, key: Key) -> &Step
         requires { IsSome (keyed_at key self.now.keyed_steps) }
@@ -34,8 +35,8 @@ impl Log {
         self.arena.get(key)
     }
 
-    /// What was there before the step of the key, which has to be there: where its role stood, and to what the name
-    /// that it binds was bound.
+    /// What was there before the step of the key, which has to be there: the node at which its role stood, and the step
+    /// to which the name that it binds was bound; for undoing it. O(1).
     #[inline(always)]
     pub fn before(&self, key: Key) -> Before
         requires { IsSome (keyed_at key self.now.keyed_steps) }
@@ -44,7 +45,7 @@ impl Log {
         self.arena.before(key)
     }
 
-    /// The key of the role's newest step, if it has one.
+    /// The key of the role's newest step, or `None` where it has none. O(1), by the arena, which callers don't see.
     #[inline(always)]
     pub fn last_of(&self, role: Role) -> Option<Key>
         requires { role < 8 }
@@ -53,8 +54,8 @@ impl Log {
         self.arena.last_of(role)
     }
 
-    /// The next step of the same role, if there is one; none where no step has the key. The clause `sound` is for
-    /// callers' proofs.
+    /// The key of the next step of the same role; `None` for its newest, and where no step has the key. O(1), by the
+    /// arena, which callers don't see. The clause `sound` is for callers' proofs.
     #[inline(always)]
     pub fn next_of_role(&self, key: Key) -> Option<Key>
         ensures next { result ≡ next_of_role_in self.now.keyed_steps key }
@@ -63,7 +64,8 @@ impl Log {
         self.arena.next_of_role(key)
     }
 
-    /// The previous step of the same role, if there is one; none where no step has the key.
+    /// The key of the previous step of the same role; `None` for its oldest, and where no step has the key. O(1), by
+    /// the arena, which callers don't see.
     #[inline(always)]
     pub fn prev_of_role(&self, key: Key) -> Option<Key>
         ensures { result ≡ prev_of_role_in self.now.keyed_steps key }
@@ -71,8 +73,8 @@ impl Log {
         self.arena.prev_of_role(key)
     }
 
-    /// The message that the receipt of the key took: that of the send that it is matched with; none where the key is no
-    /// receipt's.
+    /// The message that the receipt or pick of the key took, borrowed from the step that gave it; `None` where the key
+    /// is of no such step. O(1).
     #[inline(always)]
     pub fn taken(&self, key: Key) -> Option<&Message>
         ensures { option_copied result ≡ message_taken self.now.keyed_steps key }
@@ -80,7 +82,8 @@ impl Log {
         taken_at(&self.arena, key)
     }
 
-    /// The least number of another step that depends on this one, if one does.
+    /// The least number of another step that depends on this one, or `None`: then the step may be removed, as the
+    /// clause `free` says in terms of the log. O(1); it does not allocate.
     #[inline(always)]
     pub fn least_dependent(&self, id: StepId) -> Option<StepId>
         requires present { IsSome (step_of (steps self.now.keyed_steps) id) }

@@ -48,8 +48,8 @@ impl Model for Log {
     ghost invariant = { IsLog };
 }
 
-// Before a step is removed, undoes its binding in the stores: the name, if it binds one, gets back what it was bound
-// to.
+// Before a step is removed, undoes its binding: its name, if it binds one, is bound again to what it was before. For
+// slots and for marks alike, so apart from `give_back`.
 fn unbind(stores: &mut Stores, arena: &Arena, key: Key, name: Option<&Name>)
     requires can { CanGo arena.now.keyed_steps key }
     requires sound { AreSound arena.now.keyed_steps }
@@ -62,8 +62,9 @@ fn unbind(stores: &mut Stores, arena: &Arena, key: Key, name: Option<&Name>)
     }
 }
 
-// Before a step is removed, undoes what it did to the queues and the stores: a send's message leaves its queue, a
-// receipt's comes back to the front, and the slot or the name that the step binds gets back what it was bound to.
+// Before a step is removed, undoes its effect on queues and stores: a send's message leaves its queue, a receipt's is
+// in front of it again, and the step's name is bound again as before. The fields come one by one, since the arena is
+// borrowed beside them.
 fn give_back(queues: &mut Queues, slots: &mut Stores, marks: &mut Stores, arena: &Arena, key: Key)
     requires can { CanGo arena.now.keyed_steps key }
     requires sound { AreSound arena.now.keyed_steps }
@@ -86,7 +87,7 @@ fn give_back(queues: &mut Queues, slots: &mut Stores, marks: &mut Stores, arena:
     }
 }
 
-// The message that the step of the key gave; none where it is no send or choice.
+// The message that the step of the key, which has to be there, gave, borrowed; `None` where it is no send or choice.
 pub(crate) fn message_at(arena: &Arena, key: Key) -> Option<&Message>
     requires { IsSome (keyed_at key arena.now.keyed_steps) }
     ensures { option_copied result ≡ message_of arena.now.keyed_steps key }
@@ -97,8 +98,8 @@ pub(crate) fn message_at(arena: &Arena, key: Key) -> Option<&Message>
     }
 }
 
-// The message that the receipt of the key took: that of the send that it is matched with; none where the key is no
-// receipt's.
+// The message that the receipt or pick of the key took, which is stored in the step that gave it; `None` where the key
+// is of no such step. O(1).
 pub(crate) fn taken_at(arena: &Arena, key: Key) -> Option<&Message>
     ensures { option_copied result ≡ message_taken arena.now.keyed_steps key }
 {
@@ -106,7 +107,7 @@ pub(crate) fn taken_at(arena: &Arena, key: Key) -> Option<&Message>
     message_at(arena, source)
 }
 
-// The value that the receipt of the key took; none where it took a label, or the key is no receipt's.
+// The value that the receipt of the key took, borrowed; `None` where it took a label, or the key is of no receipt.
 fn value_at(arena: &Arena, receipt: Key) -> Option<&Value>
     ensures { option_copied result ≡ value_taken arena.now.keyed_steps receipt }
 {
@@ -117,7 +118,8 @@ fn value_at(arena: &Arena, receipt: Key) -> Option<&Value>
 }
 
 impl Log {
-    /// A log without steps. The allocator is kept for later growth.
+    /// A log without steps. It allocates the lists of the two stores; out of memory is the only error. The allocator is
+    /// kept for later growth.
     pub fn new(alloc: Global) -> Result<Log, AllocError>
         ensures keyed_steps { IfOk result (λ log. log.keyed_steps ≡ []) }
         ensures issued { IfOk result (λ log. log.issued ≡ 0) }
@@ -131,7 +133,8 @@ impl Log {
         })
     }
 
-    /// How many numbers were given out, also to steps that were removed since.
+    /// How many numbers were given out: also to steps that were removed since, so it never falls. The next step gets
+    /// this number plus 1.
     #[inline(always)]
     pub fn issued(&self) -> usize
         ensures { result ≡ self.now.issued }
@@ -139,7 +142,7 @@ impl Log {
         self.arena.issued()
     }
 
-    /// How many steps there are. The clause `sound` is for callers' proofs.
+    /// How many steps there are now, also those that are chosen. The clause `sound` is for callers' proofs.
     #[inline(always)]
     pub fn len(&self) -> usize
         ensures count { result ≡ length self.now.keyed_steps }
@@ -148,7 +151,7 @@ impl Log {
         self.arena.len()
     }
 
-    /// The k-th step, from 0, if there are so many. It takes O(k) time.
+    /// The k-th step in order, from 0, or `None` where there are not so many. O(k): it walks from the oldest.
     pub fn step(&self, k: usize) -> Option<&Step>
         ensures { option_copied result ≡ slice_get (steps self.now.keyed_steps) k }
     {
@@ -156,14 +159,15 @@ impl Log {
         Some(self.arena.get(key))
     }
 
-    /// The steps in order, each with the message that it gave or took.
+    /// An iterator over the steps in order, each with the message that it gave or took. It does not allocate.
     pub fn moves(&self) -> Moves<'_>
         ensures { result ≡ shown self.now.keyed_steps self.now.keyed_steps }
     {
         Moves::of(&self.arena)
     }
 
-    /// The arena, which has the steps with their links. The clause `sound` is for callers' proofs.
+    /// The arena, which has the steps with their links, to read: for tests, which compare it with plain lists. The
+    /// clause `sound` is for callers' proofs.
     pub fn steps(&self) -> &Arena
         ensures keyed_steps { result.now.keyed_steps ≡ self.now.keyed_steps }
         ensures issued { result.now.issued ≡ self.now.issued }
@@ -172,8 +176,8 @@ impl Log {
         &self.arena
     }
 
-    /// The k-th message that waits, from 0, of those that one role sent to another, if so many wait. It takes O(k)
-    /// time. Any roles may be named: for one that can't be there nothing waits.
+    /// The k-th message that waits from one role to another, from 0, or `None` where not so many wait. O(k). Any roles
+    /// may be named: for one that can't be there, at place 8 or more, nothing waits.
     pub fn message(&self, from: Role, to: Role, k: usize) -> Option<&Message>
         ensures { option_copied result
             ≡ slice_get (unreceived from to (steps self.now.keyed_steps)) k }
@@ -186,8 +190,8 @@ impl Log {
         message_at(arena, key)
     }
 
-    /// The first message that waits, of those that one role sent to another, with the number of the step that gave it,
-    /// if one waits. Any roles may be named: for one that can't be there nothing waits.
+    /// The first message that waits from one role to another, with the number of the step that gave it, or `None`.
+    /// O(1). Any roles may be named: for one that can't be there, at place 8 or more, nothing waits.
     pub fn first_sent(&self, from: Role, to: Role) -> Option<(StepId, &Message)>
         ensures message { option_map (λ sent. sent.1.now) result
             ≡ slice_get (unreceived from to (steps self.now.keyed_steps)) 0 }
@@ -210,8 +214,8 @@ impl Log {
         }
     }
 
-    /// What the role keeps in the slot: the value that the newest receipt into it took; none where the slot isn't
-    /// bound.
+    /// The role's value in the slot: what the newest receipt into it took, borrowed; `None` where the slot isn't bound.
+    /// O(1).
     pub fn value(&self, role: Role, slot: &Name) -> Option<&Value>
         requires { role < 8 }
         ensures { option_copied result ≡ kept_in self.now.keyed_steps role slot.now }
@@ -220,7 +224,8 @@ impl Log {
         value_at(&self.arena, receipt)
     }
 
-    /// The key of the role's last mark of the name, if it has one.
+    /// The key of the role's last mark of the name, or `None` where none survives: what a return to a mark starts from.
+    /// O(1).
     pub fn last_mark(&self, role: Role, name: &Name) -> Option<Key>
         requires { role < 8 }
         ensures { result ≡ last_mark self.now.keyed_steps role name.now }
@@ -228,7 +233,7 @@ impl Log {
         self.marks.get(role, name)
     }
 
-    /// How many slots of the role are bound.
+    /// How many slots of the role are bound now, for `binding` to list. O(1).
     pub fn slots(&self, role: Role) -> usize
         requires { role < 8 }
         ensures { result ≡ length (bindings slot_of role self.now.keyed_steps) }
@@ -236,8 +241,8 @@ impl Log {
         self.slots.count(role)
     }
 
-    /// The role's slot that was first bound as the k-th, from 0, and the value that it keeps there, if so many are
-    /// bound.
+    /// The role's slot that was first bound as the k-th, from 0, and the value in it, or `None` where fewer are bound.
+    /// O(1).
     pub fn binding(&self, role: Role, k: usize) -> Option<(&Name, &Value)>
         requires { role < 8 }
         ensures { option_map (deref_pair {K = List ℕ} {X = Value}) result
@@ -249,8 +254,8 @@ impl Log {
         Some((bound.0, value))
     }
 
-    /// The messages that wait, in order, of those that one role sent to another. Any roles may be named: for one that
-    /// can't be there nothing waits.
+    /// An iterator over the messages that wait from one role to another, in order of sending. It does not allocate. Any
+    /// roles may be named: for one that can't be there, at place 8 or more, nothing waits.
     pub fn waiting(&self, from: Role, to: Role) -> Queue<'_>
         ensures { result ≡ unreceived from to (steps self.now.keyed_steps) }
     {
@@ -262,8 +267,8 @@ impl Log {
         Queue::of(arena, from, to, first)
     }
 
-    /// Puts a send or a choice after all other steps, with the next number. The role stood at the node `at` of its
-    /// table.
+    /// Appends a send or a choice under the next number, and its message to the pair's queue. `at` is the node at which
+    /// the role stood before, for `remove` to tell. Out of memory is the only error, and changes nothing.
     #[inline(always)]
     pub fn send(
         &mut self,
@@ -286,8 +291,9 @@ impl Log {
         Ok(self.arena.add(role, act, before, None))
     }
 
-    /// Puts a receipt or a pick after all other steps, with the next number. It takes the first message that waits, and
-    /// there has to be one. A receipt has a slot, which is bound to it. The role stood at the node `at` of its table.
+    /// Appends a receipt or a pick under the next number. It takes the first message that waits, which has to be there,
+    /// and binds a receipt's slot. `at` is the node at which the role stood before. Out of memory is the only error,
+    /// and changes nothing.
     pub fn receive(
         &mut self,
         role: Role,
@@ -314,7 +320,8 @@ impl Log {
         Ok(self.arena.add(role, act, Before { at, bound }, source))
     }
 
-    /// Puts a mark after all other steps, with the next number. The role stood at the node `at` of its table.
+    /// Appends a mark under the next number, and binds its name to it, as the role's last of the name. `at` is the node
+    /// at which the role stood before. Out of memory is the only error, and changes nothing.
     pub fn mark(&mut self, role: Role, name: Name, at: u16) -> Result<StepId, AllocError>
         requires { role < 8 }
         ensures id { IfOk result (λ id. id ≡ self.old.issued + 1) }
@@ -327,7 +334,8 @@ impl Log {
         Ok(self.arena.add(role, act, Before { at, bound }, None))
     }
 
-    /// Puts a commit after all other steps, with the next number. The role stood at the node `at` of its table.
+    /// Appends a commit under the next number; it is in no queue and no store. `at` is the node at which the role stood
+    /// before. Out of memory is the only error, and changes nothing.
     pub fn commit(&mut self, role: Role, at: u16) -> Result<StepId, AllocError>
         requires { role < 8 }
         ensures id { IfOk result (λ id. id ≡ self.old.issued + 1) }
@@ -341,9 +349,9 @@ impl Log {
         Ok(self.arena.add(role, Act::Commit, before, None))
     }
 
-    /// Removes a step that is the last of its role and, if it is a send or a choice, isn't received, and gives it. Its
-    /// message leaves the queue, or comes back to its front; its slot, or the name that it marks, gets back what it was
-    /// bound to. It does not allocate.
+    /// Removes and returns a step that is the last of its role and, if it is a send or a choice, isn't received. Its
+    /// effect on queue, slot and mark is undone too. It does not allocate, and can't fail. O(1), but O(names) where a
+    /// slot or a mark is bound no more, to keep the order of the others.
     pub fn remove(&mut self, key: Key) -> Step
         requires { CanGo self.old.keyed_steps key }
         ensures step { option_map (λ e. e.step) (keyed_at key self.old.keyed_steps) ≡ Some result }

@@ -32,7 +32,7 @@ impl<'a> Model for Moves<'a> {
 }
 
 impl<'a> Moves<'a> {
-    /// All steps of a log's arena, each with the message that it gave or took.
+    /// An iterator over all steps of a log's arena, from the oldest. It does not allocate.
     pub(crate) fn of(arena: &'a Arena) -> Moves<'a>
         requires { AreSound arena.now.keyed_steps }
         ensures { result ≡ shown arena.now.keyed_steps arena.now.keyed_steps }
@@ -51,7 +51,7 @@ impl<'a> Iterator for Moves<'a> {
 
     ghost remaining = { item_count (λ left. left) };
 
-    // The oldest step that is left, with the message that it gave or took.
+    // The next step in order, with the message that it gave or took, or `None` at the end. O(1).
     fn next(&mut self) -> Option<(&'a Step, Option<&'a Message>)> {
         let key = self.at?;
         let arena = self.arena;
@@ -60,7 +60,8 @@ impl<'a> Iterator for Moves<'a> {
     }
 }
 
-// The message that the step of the key gave or took, if there is one.
+// The message that the step of the key gave or took, borrowed; `None` for a mark and a commit. The step has to be
+// there.
 fn moved_at(arena: &Arena, key: Key) -> Option<&Message>
     requires { IsSome (keyed_at key arena.now.keyed_steps) }
     ensures { option_copied result

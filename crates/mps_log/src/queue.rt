@@ -34,7 +34,8 @@ impl<'a> Model for Queue<'a> {
 }
 
 impl<'a> Queue<'a> {
-    /// All messages that wait from one role to another, where this is the first send that isn't received.
+    /// An iterator over all messages that wait from one role to another, where `first` is the first send that isn't
+    /// received. It does not allocate.
     pub(crate) fn of(arena: &'a Arena, from: Role, to: Role, first: Option<Key>) -> Queue<'a>
         requires sound { AreSound arena.now.keyed_steps }
         requires first { first ≡ first_waiting arena.now.keyed_steps from to }
@@ -56,7 +57,7 @@ impl<'a> Iterator for Queue<'a> {
 
     ghost remaining = { item_count (λ left. left) };
 
-    // The message that was sent first of those that are left.
+    // The next message in order of sending, or `None` at the end. O(1).
     fn next(&mut self) -> Option<&'a Message> {
         let key = self.at?;
         let arena = self.arena;

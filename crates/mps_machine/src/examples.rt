@@ -17,7 +17,7 @@ ghost use Rattle.mps_machine.specs.Examples.{ACommitIsAllowedAtTheEnd, AnEmptyRe
 ghost use Rattle.mps_machine.specs.Examples.{TheLeastCommitIsNamed, EitherRollbackMayComeFirst};
 ghost use Rattle.mps_machine.specs.Examples.{ADetourLeavesNoTrace, StrangersMayChangePlaces};
 
-/// What the machine answers in short sessions, as worked out by hand.
+/// What the machine answers in short sessions, as worked out by hand: tests of the definitions, checked by the prover.
 pub fn worked_sessions()
     ensures an_undo_waits_for_the_receipt { AnUndoWaitsForTheReceipt }
     ensures a_rollback_removes_all_that_depends { ARollbackRemovesAllThatDepends }

@@ -4,8 +4,9 @@ ghost use Rattle.mps_local.specs.Local.{LocalType};
 ghost use Rattle.mps_machine.specs.Machine.{initial, Request, after};
 ghost use Rattle.mps_machine.specs.Runs.{survivors, LeadsForward, LeadsBackAndForth};
 
-/// Wherever any commands lead, undos and rollbacks among them, steps alone lead too, numbers aside: as many as survive.
-/// From any state that commands lead to, undos and then steps do (the parabolic lemma of Danos, Krivine, CONCUR 2004).
+/// A law: wherever any commands lead, undos and rollbacks among them, steps alone lead too, numbers aside: as many as
+/// survive. From any state that commands lead to, undos and then steps do (the parabolic lemma of Danos, Krivine,
+/// CONCUR 2004).
 pub fn undos_then_steps_suffice()
     ensures from_the_start { (types : List LocalType) (requests : List Request)
         → LeadsForward types (survivors types requests) }

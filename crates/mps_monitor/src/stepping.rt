@@ -15,9 +15,9 @@ use mps_base::{Message, Name, Role, Sort};
 use mps_command::{Forward, Violation};
 use mps_table::{Node, Table};
 
-/// The node to which a role that stands at this one goes on, or the first reason why the step is not allowed there.
-/// `first` is the first message that waits from the peer whom the step names, if one does. After a mark or a commit the
-/// role stays where it is.
+/// The node to which a role at `node` of its table goes on by the step, or the first reason why its type doesn't allow
+/// it; after a mark or a commit the same node. `first` is the first message that waits from the peer whom the step
+/// names, if one does. O(labels), and it does not allocate.
 #[inline(always)]
 pub fn next_node(
     table: &Table,

@@ -29,8 +29,9 @@ pub enum Advance {
     Into(usize),
 }
 
-/// How a role that expects this goes on, or the first reason why the step is not allowed. `first` is the first message
-/// that waits from the peer whom the step names, if one does. Nothing is allocated.
+/// How a role that expects this goes on by the step, or the first reason why its type doesn't allow it, in the order of
+/// `Violation`. `first` is the first message that waits from the peer whom the step names, if one does. O(labels), and
+/// it does not allocate.
 #[inline(always)]
 pub fn judge(
     expected: Expect<'_>,
@@ -76,15 +77,15 @@ pub fn judge(
     }
 }
 
-/// The message that a command moves by `moved_by`, with the first that waits from its peer, is the one that it moves in
-/// the machine.
+/// A law: the message that a step gives or takes by `moved_by`, which is told only the first message that waits, is the
+/// one that the machine moves, which has the whole view.
 pub fn the_machine_moves_the_same()
     ensures { (v : View) (p : ℕ) (step : Forwarded)
         → moved v p (act_of step) ≡ moved_by step (waiting_from v p (peer_of step)) }
 {}
 
-// Whether a role may send the value to `to`, where its type has it send one of the sort to `peer`. `WrongPeer` comes
-// before `WrongSort`.
+// Whether a role whose type is an output of `sort` to `peer` may send the value to `to`; else `WrongPeer`, and only
+// then `WrongSort`.
 fn judge_send(peer: Role, sort: Sort, to: Role, value: &Value) -> Result<Advance, Violation>
     ensures { IsVerdict (Sends peer sort) (acts.Out to (messages.Value value.now))
         (Some (messages.Value value.now)) result }
@@ -98,8 +99,8 @@ fn judge_send(peer: Role, sort: Sort, to: Role, value: &Value) -> Result<Advance
     Ok(Advance::Next)
 }
 
-// Whether a role may choose the label and tell `to`, where its type has it choose one of the labels and tell `peer`.
-// `WrongPeer` comes before `NoLabel`.
+// Whether a role whose type is a selection of one of the labels at `peer` may choose `label` and tell `to`; else
+// `WrongPeer`, and only then `NoLabel`. The branch's place is returned.
 #[tactic(auto, using(crate::proofs::Labels::a_label, crate::proofs::Labels::not_a_label))]
 fn judge_choice(peer: Role, labels: &[Name], to: Role, label: &Name) -> Result<Advance, Violation>
     ensures { IsVerdict (Chooses peer labels.now) (acts.Out to (messages.Label label.now))
@@ -114,8 +115,8 @@ fn judge_choice(peer: Role, labels: &[Name], to: Role, label: &Name) -> Result<A
     }
 }
 
-// Whether a role may take a value from `from`, where its type has it take one of the sort from `peer`, and `first` is
-// what waits first from `from`. A label, or a value of another sort, is a `Mismatch`.
+// Whether a role whose type is an input of `sort` from `peer` may receive from `from`, where `first` waits; else
+// `WrongPeer`, then `NothingQueued`, then `Mismatch` for a label or a value of another sort.
 fn judge_receipt(
     peer: Role,
     sort: Sort,
@@ -135,8 +136,9 @@ fn judge_receipt(
     }
 }
 
-// Whether a role may take a label from `from`, where its type has it take one of the labels from `peer`, and `first` is
-// what waits first from `from`. A value, or another label, is a `Mismatch`.
+// Whether a role whose type is a branching at `peer` may take the label `first` that waits from `from`; else
+// `WrongPeer`, then `NothingQueued`, then `Mismatch` for a value or a label of no branch. The branch's place is
+// returned.
 #[tactic(auto, using(crate::proofs::Labels::a_label, crate::proofs::Labels::not_a_label))]
 fn judge_pick(
     peer: Role,
@@ -160,7 +162,7 @@ fn judge_pick(
     }
 }
 
-// The first place at which the label stands, if it does.
+// The first place at which the label stands, from 0, or `None`. At most 16 labels are compared.
 fn place_of_label(labels: &[Name], label: &Name) -> Option<usize>
     ensures { result ≡ place_of_label labels.now label.now }
 {

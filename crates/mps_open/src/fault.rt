@@ -38,7 +38,7 @@ pub enum Fault {
 impl From<AllocError> for Fault {
     ghost from_gives = { λ _ fault. fault ≡ OutOfMemory };
 
-    // A failed allocation is `Memory`.
+    // Lets `?` turn a failed allocation into `Memory`.
     fn from(_: AllocError) -> Fault {
         Fault::Memory
     }
@@ -47,7 +47,7 @@ impl From<AllocError> for Fault {
 impl From<TextFault> for Fault {
     ghost from_gives = { λ f fault. fault ≡ of_text f.at f.kind };
 
-    // A text's fault is why it gives no session; lack of memory is `Memory`, without a byte.
+    // Lets `?` turn a fault of the text into this one; out of memory is `Memory`, without a byte.
     fn from(fault: TextFault) -> Fault {
         match fault.kind {
             TextKind::Memory => Fault::Memory,
@@ -59,7 +59,7 @@ impl From<TextFault> for Fault {
 impl From<GlobalFault> for Fault {
     ghost from_gives = { λ f fault. fault ≡ InProtocol f };
 
-    // A protocol's fault is why its text gives no session.
+    // Lets `?` turn a fault of `check` into this one.
     fn from(fault: GlobalFault) -> Fault {
         Fault::Protocol(fault)
     }
@@ -67,7 +67,8 @@ impl From<GlobalFault> for Fault {
 
 impl Fault {
     /// The number of the fault, for callers that have no enums: 1 for memory, 16 to 21 for a text, 32 to 43 for a
-    /// protocol, and 48 plus the place of the role, from 0, for a projection. Each in the order of docs/FORMATS.md.
+    /// protocol, and 48 plus the role's place, from 0, for a projection. Within each group in the order of
+    /// docs/FORMATS.md.
     pub fn number(&self) -> u32
         ensures { result ≡ number_of self.now }
     {
@@ -79,7 +80,8 @@ impl Fault {
         }
     }
 
-    /// The byte of the text at which the fault is, or the number of the choice that has no projection, else 0.
+    /// Where the fault is: for a text the byte, from 0; for a projection the choice, in preorder from 0; else 0. The
+    /// second of the two numbers that callers in C get, after `number`.
     pub fn place(&self) -> u64
         ensures { result ≡ place_of self.now }
     {
@@ -91,7 +93,7 @@ impl Fault {
     }
 }
 
-// The number of a fault of a text; lack of memory has the same one everywhere.
+// The number of a text's fault, 16 to 21; lack of memory has 1 wherever it comes up.
 fn text_number(kind: TextKind) -> u32
     ensures { result ≡ text_number kind }
 {
@@ -106,7 +108,7 @@ fn text_number(kind: TextKind) -> u32
     }
 }
 
-// The number of a fault of a protocol.
+// The number of a protocol's fault, 32 to 43, in the order of `GlobalFault`.
 fn protocol_number(fault: GlobalFault) -> u32
     ensures { result ≡ protocol_number fault }
 {

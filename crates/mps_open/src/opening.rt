@@ -32,7 +32,8 @@ pub struct Opening {
     ghost projected: { AreProjections protocol.roles.items (global_type protocol.body) (map plain types.items) } by { Prim.hlevel (codes, coded_local) },
 }
 
-// The roles of a protocol without faults. Only memory may be lacking.
+// The roles of a protocol without faults, whose names are 2 to 8 and distinct, as `check` found. So out of memory is
+// the only error.
 fn roles_of(alloc: Global, protocol: &Protocol) -> Result<Roles, AllocError>
     requires { fault_of protocol.now.roles.items (global_type protocol.now.body) ≡ None }
     ensures { IfOk result (λ roles. roles ≡ protocol.now.roles.items) }
@@ -46,7 +47,8 @@ fn roles_of(alloc: Global, protocol: &Protocol) -> Result<Roles, AllocError>
     }
 }
 
-// Why a protocol without faults gives no types: memory ran out, or a role has no projection, which is named too.
+// The `Fault` of a failed projection: `Memory`, or the role, with its name, that has no projection. Apart from a
+// `From`, since the name is looked up in the protocol.
 fn unprojected(protocol: &Protocol, fault: ProjectFault) -> Fault
     requires faultless { fault_of protocol.now.roles.items (global_type protocol.now.body) ≡ None }
     requires fault { AreNotAll protocol.now.roles.items (global_type protocol.now.body) fault }
@@ -63,8 +65,8 @@ fn unprojected(protocol: &Protocol, fault: ProjectFault) -> Fault
 }
 
 impl Opening {
-    /// What the sessions of the protocol begin with. The protocol is checked, and then projected to each of its roles;
-    /// where that fails, it is dropped.
+    /// Checks the protocol, and projects it to each of its roles: what all of its sessions share, made once. The first
+    /// fault is returned, and `Memory` only where there is no other; the protocol is dropped then.
     pub fn of(alloc: Global, protocol: Protocol) -> Result<Opening, Fault>
         ensures protocol { IfOk result (λ opening. opening.protocol ≡ protocol) }
         ensures fault { IfErr result (GivesNoOpening protocol.roles.items (global_type protocol.body)) }
@@ -82,8 +84,8 @@ impl Opening {
         })
     }
 
-    /// What the sessions of the protocol that the text spells begin with. The text is read first, and the protocol
-    /// checked then.
+    /// `Opening::of` of the protocol that the text spells, at most 65,536 bytes. Faults of the text come first, then
+    /// those of the protocol.
     pub fn of_text(alloc: Global, text: &[u8]) -> Result<Opening, Fault>
         ensures read { IfOk result (λ opening.
             IsProtocolText text.now opening.protocol.roles.items (global_type opening.protocol.body)) }
@@ -94,8 +96,8 @@ impl Opening {
         Opening::of(alloc, protocol)
     }
 
-    /// A new session of the protocol, with copies of the types. No command is refused there with `Mismatch`, whatever
-    /// the roles do.
+    /// A new session of the protocol, with copies of the types, so that more can be opened. It fails only when out of
+    /// memory. No command is ever refused with `Mismatch` there.
     pub fn session(&self, alloc: Global) -> Result<Session, AllocError>
         ensures new { IfOk result (λ s. s ≡ record { types = map plain self.now.types.items; state = initial }) }
         ensures of_one_protocol { IfOk result (λ s. AreOfOneProtocol s.types) }
@@ -103,7 +105,8 @@ impl Opening {
         open_types(alloc, copy_all(alloc, &self.types)?)
     }
 
-    /// The names of the roles, and a new session of the protocol, which takes the types: the only one that is opened.
+    /// The names of the roles, and the only session of the protocol, which takes the types in place of copies. It fails
+    /// only when out of memory, and drops all then.
     pub fn into_session(self, alloc: Global) -> Result<(Roles, Session), AllocError>
         ensures roles { IfOk result (λ r. r.0 ≡ self.roles) }
         ensures new { IfOk result (λ r. r.1 ≡ record { types = map plain self.types.items; state = initial }) }
@@ -119,8 +122,8 @@ impl Opening {
     }
 }
 
-/// The roles of the protocol that the text spells, and a new session of it. No command is refused there with
-/// `Mismatch`, whatever the roles do.
+/// `Opening::of_text` and `into_session` in one: the roles and a new session of the protocol that the text spells. The
+/// first fault is returned. No command is ever refused with `Mismatch` there.
 pub fn open_text(alloc: Global, text: &[u8]) -> Result<(Roles, Session), Fault>
     ensures types { IfOk result (λ r. AreTypesOf text.now r.0 r.1.types) }
     ensures new { IfOk result (λ r. r.1.state ≡ initial) }

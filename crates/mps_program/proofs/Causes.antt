@@ -1,5 +1,5 @@
 -- From the faults of one step to those of all.
-use Rattle.std.proofs.Common.{◌≡◌, ℕ, ◌≤◌, Bool, true, false, List, length, map, Option, Some, None, Result, Ok, Err, IsErrAnd, IfErr, sym, subst, inr}
+use Rattle.std.proofs.Common.{◌≡◌, ℕ, ◌≤◌, Bool, true, false, List, length, map, Option, Some, None, Result, Ok, Err, IsErrAnd, IfErr, sym, subst, inl, inr}
 use Rattle.std.specs.Io.KnownBytes.{Consumes, IsAtEnd}
 use Rattle.mps_global.specs.Global.{plain as global_type}
 use Rattle.mps_local.specs.Local.{plain}
@@ -12,10 +12,12 @@ use Rattle.mps_program.specs.Check.{GivesNoTypes, of_opening}
 use Rattle.mps_program.specs.Files.{longest}
 use Rattle.mps_program.specs.Streams.{HasGivenOpening}
 use Rattle.mps_program.specs.Faults.{as_told, without}
-use Rattle.mps_program.specs.Journals.{recorded_of}
+use Rattle.std.specs.Prelude.{slice_get, All}
+use Rattle.std.proofs.lemmas.Option.{slice_get_within, get_or_from_slice_get}
+use Rattle.mps_program.specs.Journals.{IsFileFaultOf, IsSessionsFault, recorded_of}
 use Rattle.mps_program.specs.Served.{IsOutFault, IsServeFault}
 use Rattle.mps_program.specs.declared.faults.ToolFault.{ToolFault}
-use Rattle.mps_program.specs.declared.faults.ToolFault.TheVariants.{Bind, File, JournalFile, Read}
+use Rattle.mps_program.specs.declared.faults.ToolFault.TheVariants.{Bind, File, JournalFile, JournalLine, JournalLost, Read}
 
 -- a fault that `?` hands on
 pub told : {A : Type 0} (r : Result A ToolFault) (P : ToolFault → Type 0) (e : ToolFault) → IsErrAnd r (λ x. x ≡ e) → P e → IfErr r P
@@ -28,16 +30,30 @@ server_fails (Ok x) file folder recorded first first' n n' same number count h =
 server_fails (Err e) file folder recorded first first' n n' same number count h =
     inr (inr (subst (λ (k : ℕ × (ℕ × ℕ)). IsOutFault k.0 k.1.0 k.1.1 e) (λ i. (same i, (number i, count i))) h))
 
+-- how it fails where each of its sessions was refused, by one of these faults
+pub session_fails : (file : List ℕ) (folder : Option (List ℕ)) (first n : ℕ) (refused : List ToolFault) (i : ℕ) (fault : ToolFault) → slice_get refused i ≡ Some fault → All (IsSessionsFault folder first n) refused → IsServeFault file folder first n fault
+session_fails file folder first n refused i fault at all = inr (inl (subst (IsSessionsFault folder first n) (get_or_from_slice_get refused i fault fault at) (all i fault (slice_get_within refused i fault at))))
+
+-- sessions that were refused while others go on, one step after the other
+pub refused_on : (first first' n n' : ℕ) (before mid after : List ToolFault) → first' ≡ first → n' ≡ n → (All (IsFileFaultOf first n) before → All (IsFileFaultOf first n) mid) → (All (IsFileFaultOf first' n') mid → All (IsFileFaultOf first' n') after) → All (IsFileFaultOf first n) before → All (IsFileFaultOf first n) after
+refused_on first first' n n' before mid after same count earlier more all =
+    subst (λ (k : ℕ × ℕ). All (IsFileFaultOf k.0 k.1) after) (λ i. (same i, count i))
+    (more (subst (λ (k : ℕ × ℕ). All (IsFileFaultOf k.0 k.1) mid) (λ i. (sym same i, sym count i)) (earlier all)))
+
 -- without what the system says of it a server's fault is one of the same kind
 bare_server : (file : List ℕ) (folder : Option (List ℕ)) (first n : ℕ) (fault : ToolFault) → IsServeFault file folder first n fault → IsServeFault file folder first n (without fault)
 bare_server file None first n (File name why) h = h
 bare_server file None first n (Read why) h = h
 bare_server file None first n (Bind why) h = h
 bare_server file None first n (JournalFile session why) h = h
+bare_server file None first n (JournalLine session line why) h = h
+bare_server file None first n (JournalLost session why) h = h
 bare_server file (Some folder) first n (File name why) h = h
 bare_server file (Some folder) first n (Read why) h = h
 bare_server file (Some folder) first n (Bind why) h = h
 bare_server file (Some folder) first n (JournalFile session why) h = h
+bare_server file (Some folder) first n (JournalLine session line why) h = h
+bare_server file (Some folder) first n (JournalLost session why) h = h
 bare_server file folder first n fault h = h
 
 pub server_told : {A : Type 0} (verbose : Bool) (done : Result A ToolFault) (file : List ℕ) (folder : Option (List ℕ)) (first n : ℕ) → IfErr done (IsServeFault file folder first n) → IfErr (as_told verbose done) (IsServeFault file folder first n)

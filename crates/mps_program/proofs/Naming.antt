@@ -1,5 +1,5 @@
 -- The rooms that a server begins with: their names, and what lines led to.
-use Rattle.std.proofs.Common.{◌≡◌, ℕ, List, ap, subst, ◌∙◌}
+use Rattle.std.proofs.Common.{◌≡◌, ℕ, List, [], refl, sym, ap, subst, ◌∙◌}
 use Rattle.std.specs.Prelude.{All}
 use Rattle.mps_local.specs.Local.{LocalType}
 use Rattle.mps_keeper.specs.declared.restored_room.RestoredRoom.{RestoredRoom}
@@ -13,6 +13,17 @@ new_named names types rooms all = λ i d less. ap (λ (m : RoomState). m.names) 
 
 pub restored_named : (names : List (List ℕ)) (types : List LocalType) (rooms : List RestoredRoom) → All (IsRestoredRoom names types) rooms → All (λ (r : RestoredRoom). r.room.names ≡ names) rooms
 restored_named names types rooms all = λ i d less. (all i d less).names_are
+
+-- a new room is one that no lines led on
+pub new_restored : (names : List (List ℕ)) (types : List LocalType) (room : RestoredRoom) → IsNewRoom names types room → IsRestoredRoom names types room
+new_restored names types room new = record {
+  names_are = ap (λ (m : RoomState). m.names) new.room;
+  types_are = ap (λ (m : RoomState). m.types) new.room;
+  lines = [];
+  blank = room.numbers.items;
+  none = new.none;
+  restored = ap (λ (m : RoomState). record { journal = m.journal; newest = newest_of room.numbers.items }) new.room;
+}
 
 -- a new room that lines led on
 pub restored_room : (names : List (List ℕ)) (types : List LocalType) (room after : RestoredRoom) (lines : List (List ℕ)) → IsNewRoom names types room → after.room.names ≡ room.room.names → after.room.types ≡ room.room.types → LinesRestored room.room.names room.room.types (standing_of room) lines (standing_of after)

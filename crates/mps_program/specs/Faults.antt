@@ -1,5 +1,5 @@
 -- How faults are told.
-use Rattle.std.specs.Prelude.{◌+◌, ◌⊎◌, ⊤, ◌≡◌, ℕ, Bool, true, false, List, Option, None, Some, Result, Ok, Err, codes, ◌++◌}
+use Rattle.std.specs.Prelude.{◌+◌, ◌⊎◌, ⊤, ◌≡◌, ℕ, Bool, true, false, List, Option, None, Some, Result, Ok, Err, codes, [], ◌++◌}
 use Rattle.std.specs.String.{string_bytes}
 use Rattle.std.specs.declared.io.Error.{Error}
 use Rattle.std.specs.Fmt.{decimal}
@@ -23,7 +23,7 @@ use Rattle.mps_program.specs.Streams.{CantLoad, CantShow}
 use Rattle.mps_program.specs.declared.faults.ToolFault.{ToolFault}
 use Rattle.mps_program.specs.declared.faults.ToolFault.TheVariants.{Usage, File, Text, Protocol, Projection, Open, Read}
 use Rattle.mps_program.specs.declared.faults.ToolFault.TheVariants.{Write, Turns, Bind, Accept, Lost, JournalFile}
-use Rattle.mps_program.specs.declared.faults.ToolFault.TheVariants.{JournalLine, JournalProtocol, JournalLost, Memory}
+use Rattle.mps_program.specs.declared.faults.ToolFault.TheVariants.{JournalLine, JournalProtocol, JournalLost, JournalBroken, Memory}
 
 -- the word for a fault of a text
 abbrev pub text_word : TextKind → List ℕ
@@ -50,7 +50,7 @@ protocol_word Unbound = codes "unbound"
 protocol_word Shadowed = codes "shadowed"
 protocol_word Unguarded = codes "unguarded"
 
--- the line that tells the fault
+-- the line that tells the fault; of lines that were lost it was told when they were
 abbrev pub fault_text : ToolFault → List ℕ
 fault_text (Usage text) = string_bytes text
 fault_text (File name why) = codes "refused file " ++ name.now
@@ -65,9 +65,10 @@ fault_text (Bind why) = codes "refused bind"
 fault_text Accept = codes "refused accept"
 fault_text (Lost session) = codes "refused lost " ++ decimal session
 fault_text (JournalFile session why) = codes "refused journal " ++ decimal session
-fault_text (JournalLine session at) = codes "refused journal " ++ decimal session ++ codes " " ++ decimal at
+fault_text (JournalLine session at why) = codes "refused journal " ++ decimal session ++ codes " " ++ decimal at
 fault_text JournalProtocol = codes "refused journal protocol"
-fault_text (JournalLost session) = codes "refused journal " ++ decimal session
+fault_text (JournalLost session why) = codes "refused journal " ++ decimal session
+fault_text (JournalBroken session) = []
 fault_text Memory = codes "refused memory"
 
 -- 2 for the words, the files and the port, 3 for the protocol and what a journal has, 4 for a device, a lost session
@@ -86,9 +87,10 @@ status_of (Bind why) = 2
 status_of Accept = 4
 status_of (Lost session) = 4
 status_of (JournalFile session why) = 2
-status_of (JournalLine session at) = 3
+status_of (JournalLine session at why) = 3
 status_of JournalProtocol = 3
-status_of (JournalLost session) = 4
+status_of (JournalLost session why) = 4
+status_of (JournalBroken session) = 4
 status_of Memory = 4
 
 -- the fault without what the system says of it
@@ -97,6 +99,8 @@ without (File name why) = File name None
 without (Read why) = Read None
 without (Bind why) = Bind None
 without (JournalFile session why) = JournalFile session None
+without (JournalLine session line why) = JournalLine session line None
+without (JournalLost session why) = JournalLost session None
 without fault = fault
 
 -- the fault with what the system said where a read failed, if it said something

@@ -18,16 +18,16 @@ IsFolderFault folder fault = ⊥
 -- how the journal of this session may fail
 abbrev pub IsOneFault : ℕ → ToolFault → Type 0
 IsOneFault session (JournalFile k why) = k ≡ session
-IsOneFault session (JournalLine k line) = k ≡ session
-IsOneFault session (JournalLost k) = k ≡ session
+IsOneFault session (JournalLine k line why) = k ≡ session
+IsOneFault session (JournalLost k why) = k ≡ session
 IsOneFault session Memory = ⊤
 IsOneFault session fault = ⊥
 
 -- how the journals of so many sessions from this one on may fail
 abbrev pub IsFileFaultOf : (first n : ℕ) → ToolFault → Type 0
 IsFileFaultOf first n (JournalFile session why) = IsSession first n session
-IsFileFaultOf first n (JournalLine session line) = IsSession first n session
-IsFileFaultOf first n (JournalLost session) = IsSession first n session
+IsFileFaultOf first n (JournalLine session line why) = IsSession first n session
+IsFileFaultOf first n (JournalLost session why) = IsSession first n session
 IsFileFaultOf first n Memory = ⊤
 IsFileFaultOf first n fault = ⊥
 
@@ -37,11 +37,11 @@ IsJournalFault folder first n fault = IsFolderFault folder fault ⊎ IsFileFault
 
 -- why a session was not restored, as the program tells it
 abbrev pub of_restoring : ℕ → RestoreFault → ToolFault
-of_restoring session NotRead = JournalLost session
+of_restoring session NotRead = JournalLost session None
 of_restoring session OutOfMemory = Memory
-of_restoring session (Unreadable line) = JournalLine session line
-of_restoring session (Refused line) = JournalLine session line
-of_restoring session (Changed line) = JournalLine session line
+of_restoring session (Unreadable line) = JournalLine session line (Some (Unreadable line))
+of_restoring session (Refused line) = JournalLine session line (Some (Refused line))
+of_restoring session (Changed line) = JournalLine session line (Some (Changed line))
 
 -- how many of so many sessions are recorded, by the folder, if there is one
 abbrev pub recorded_of : Option (List ℕ) → ℕ → ℕ

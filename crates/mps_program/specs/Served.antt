@@ -1,6 +1,7 @@
 -- What a server tells.
 use Rattle.std.specs.Prelude.{◌≡◌, ◌+◌, ◌<◌, ◌≤◌, ◌⊎◌, ⊤, ℕ, suc, List, [], ◌∷◌, ◌++◌, Option, Some, None, codes}
-use Rattle.std.specs.Prelude.{length}
+use Rattle.std.specs.Prelude.{length, Bool, true, if◌then◌else◌}
+use Rattle.std.specs.Option.{is_some}
 use Rattle.std.specs.Io.KnownBytes.{Appends}
 use Rattle.mps_base.specs.Numbers.{IsNumberText}
 use Rattle.mps_room.specs.RoomState.{RoomState}
@@ -10,7 +11,7 @@ use Rattle.mps_hub.specs.Places.{IsSession}
 use Rattle.mps_program.specs.Faults.{IsLoadFault}
 use Rattle.mps_program.specs.Journals.{IsSessionsFault, recorded_of}
 use Rattle.mps_program.specs.declared.faults.ToolFault.{ToolFault}
-use Rattle.mps_program.specs.declared.faults.ToolFault.TheVariants.{Write, Bind, Accept, JournalLost, Lost, Memory}
+use Rattle.mps_program.specs.declared.faults.ToolFault.TheVariants.{Write, Bind, Accept, JournalBroken, Lost, Memory}
 
 -- the port of a listener that was to have this one, where 0 is any that is free
 abbrev pub IsPortFor : (wanted port : ℕ) → Type 0
@@ -27,25 +28,43 @@ IsSessionLine session entries line =
     (number : List ℕ) × (count : List ℕ) × IsNumberText number session × IsNumberText count entries
     × (line ≡ codes "session " ++ number ++ codes " " ++ count ++ 10 ∷ [])
 
--- a line for each session from this one on, of which none is lost
-abbrev pub AreSessionLines : ℕ → List (Option RoomState) → List ℕ → Type 0
-AreSessionLines session [] lines = lines ≡ []
-AreSessionLines session (None ∷ rooms) lines = ⊥
-AreSessionLines session (Some m ∷ rooms) lines =
-    (line : List ℕ) × (others : List ℕ) × IsSessionLine session (length m.journal) line × (lines ≡ line ++ others)
-    × AreSessionLines (suc session) rooms others
+-- whether the first of the sessions was served: something records it, or none is recorded
+abbrev pub is_first_served : {K : Type 0} → List (Option K) → Bool
+is_first_served [] = true
+is_first_served (keeper ∷ keepers) = is_some keeper
 
--- a line for each session from this one on, up to the first that is lost
-abbrev pub AreLinesUpTo : ℕ → List (Option RoomState) → ℕ → List ℕ → Type 0
-AreLinesUpTo session [] lost lines = ⊥
-AreLinesUpTo session (None ∷ rooms) lost lines = (lost ≡ session) × (lines ≡ [])
-AreLinesUpTo session (Some m ∷ rooms) lost lines =
+-- what records the sessions past the first
+abbrev pub past_first : {K : Type 0} → List (Option K) → List (Option K)
+past_first [] = []
+past_first (keeper ∷ keepers) = keepers
+
+-- the sessions that were served, of which each has its number and the room that its cell closed with: those from this one
+-- on with these rooms; where sessions are recorded, those alone that something records
+abbrev pub served_of : {K : Type 0} → ℕ → List (Option K) → List (Option RoomState) → List (ℕ × Option RoomState)
+served_of session keepers [] = []
+served_of session keepers (room ∷ rooms) = let others = served_of (suc session) (past_first keepers) rooms in
+    if is_first_served keepers then (session, room) ∷ others else others
+
+-- a line for each of these sessions, of which none is lost
+abbrev pub AreSessionLines : List (ℕ × Option RoomState) → List ℕ → Type 0
+AreSessionLines [] lines = lines ≡ []
+AreSessionLines ((session, None) ∷ sessions) lines = ⊥
+AreSessionLines ((session, Some m) ∷ sessions) lines =
     (line : List ℕ) × (others : List ℕ) × IsSessionLine session (length m.journal) line × (lines ≡ line ++ others)
-    × AreLinesUpTo (suc session) rooms lost others
+    × AreSessionLines sessions others
+
+-- a line for each of these sessions, up to the first that is lost
+abbrev pub AreLinesUpTo : List (ℕ × Option RoomState) → ℕ → List ℕ → Type 0
+AreLinesUpTo [] lost lines = ⊥
+AreLinesUpTo ((session, None) ∷ sessions) lost lines = (lost ≡ session) × (lines ≡ [])
+AreLinesUpTo ((session, Some m) ∷ sessions) lost lines =
+    (line : List ℕ) × (others : List ℕ) × IsSessionLine session (length m.journal) line × (lines ≡ line ++ others)
+    × AreLinesUpTo sessions lost others
 
 -- all was told: the port, which is the one that was wanted, and how many entries the room has that each session's cell
--- closed with; the sessions are numbered from the first on
-pub record HasServed (wanted first : ℕ) (cells : List Opened) (took taken : Option (List ℕ)) : Type 0 where
+-- closed with, if it was served; the sessions are numbered from the first on
+pub record HasServed {K : Type 0} (wanted first : ℕ) (keepers : List (Option K)) (cells : List Opened)
+    (took taken : Option (List ℕ)) : Type 0 where
   pub port : ℕ
   pub port_is : IsPortFor wanted port
   pub rooms : List (Option RoomState)
@@ -53,12 +72,12 @@ pub record HasServed (wanted first : ℕ) (cells : List Opened) (took taken : Op
   pub lines : List ℕ
   pub listening : IsListeningLine port opening
   pub closed : AreClosed cells rooms
-  pub told : AreSessionLines first rooms lines
+  pub told : AreSessionLines (served_of first keepers rooms) lines
   pub sent : Appends took taken (opening ++ lines)
 
 -- a session is lost: the port was told, and how many entries the rooms have that the cells before it closed with
-pub record HasServedUpTo (wanted first : ℕ) (cells : List Opened) (took taken : Option (List ℕ)) (lost : ℕ)
-    : Type 0 where
+pub record HasServedUpTo {K : Type 0} (wanted first : ℕ) (keepers : List (Option K)) (cells : List Opened)
+    (took taken : Option (List ℕ)) (lost : ℕ) : Type 0 where
   pub port : ℕ
   pub port_is : IsPortFor wanted port
   pub rooms : List (Option RoomState)
@@ -66,7 +85,7 @@ pub record HasServedUpTo (wanted first : ℕ) (cells : List Opened) (took taken 
   pub lines : List ℕ
   pub listening : IsListeningLine port opening
   pub closed : AreClosed cells rooms
-  pub told : AreLinesUpTo first rooms lost lines
+  pub told : AreLinesUpTo (served_of first keepers rooms) lost lines
   pub sent : Appends took taken (opening ++ lines)
 
 -- where a fault is that a session is lost, this holds of its number
@@ -92,7 +111,7 @@ IsBindFault fault = ⊥
 abbrev pub IsOutFault : (recorded first n : ℕ) → ToolFault → Type 0
 IsOutFault recorded first n (Bind why) = ⊤
 IsOutFault recorded first n Accept = ⊤
-IsOutFault recorded first n (JournalLost session) = IsSession first recorded session
+IsOutFault recorded first n (JournalBroken session) = IsSession first recorded session
 IsOutFault recorded first n fault = IsTellFault first n fault
 
 -- how a server of this file may fail, whose sessions are recorded in this folder, if they are: the file gives no types, the

@@ -7,7 +7,7 @@ ghost use Rattle.mps_program.specs.declared.faults.ToolFault.TheVariants.{Open a
 
 use crate::check::check_file;
 use crate::comparison::compare_files;
-use crate::faults::{ToolFault, fault_line, reason_of, status, told};
+use crate::faults::{ToolFault, report, status, told};
 use crate::files::closed_streams;
 use crate::running::run_file;
 use crate::serving::{Service, serve_file};
@@ -20,7 +20,6 @@ use std::rt::{Env, Files};
 use std::sync::Wait;
 use std::thread::Threads;
 use std::time::{Clock, Duration};
-use std::{io, str};
 
 /// Carries out a task, and gives the exit status: 1 where two scripts differ, or a strict run met a refusal, else 0.
 /// Where more is to be told (`verbose`), a fault says what the system says of it, and standard error is told of the lines
@@ -102,6 +101,7 @@ pub fn obey<
             let limits = Limits {
                 connections,
                 idle: idle.map(|seconds| Duration::from_secs(seconds)),
+                strict: journal.is_some_and(|journal| journal.strict),
             };
             let service = Service {
                 port,
@@ -114,26 +114,6 @@ pub fn obey<
             Ok(0)
         }
         Order::Offline { task, verbose } => carry_out(rt, task, verbose),
-    }
-}
-
-// Prints the line of the fault. Where there is no memory for it, what is displayed of the fault is printed, without
-// allocating.
-fn report_line<R: AllocGlobal + Eprint>(rt: &R, fault: &ToolFault<'_>) -> io::Result<()> {
-    if let Ok(line) = fault_line(rt.alloc(), fault) {
-        if let Ok(text) = str::from_utf8(line.as_slice()) {
-            return eprintln!(rt; "{text}");
-        }
-    }
-    eprintln!(rt; "{fault}")
-}
-
-// Prints what went wrong, and after it what the system says of it, if it says something.
-fn report<R: AllocGlobal + Eprint>(rt: &R, fault: &ToolFault<'_>) -> io::Result<()> {
-    report_line(rt, fault)?;
-    match reason_of(fault) {
-        Some(why) => eprintln!(rt; "{why}"),
-        None => Ok(()),
     }
 }
 

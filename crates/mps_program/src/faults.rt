@@ -7,13 +7,14 @@ ghost use Rattle.mps_program.specs.declared.faults.ToolFault.TheVariants.{Memory
 
 use mps_base::Name;
 use mps_global::GlobalFault;
+use mps_keeper::RestoreFault;
 use mps_open::Fault;
 use mps_text::TextKind;
 use mps_wire::script::ReplayFault;
 use mps_words::UseFault;
 use std::alloc::{AllocError, AllocFailed, Global};
 use std::error::Error;
-use std::{fmt, io};
+use std::{fmt, io, str};
 
 /// Why the program didn't do what it was told. It is displayed as its line.
 #[derive(Debug, Drop)]
@@ -66,16 +67,21 @@ pub enum ToolFault<'a> {
         session: u64,
         why: Option<io::Error>,
     },
-    /// That line of a session's journal, counted from 1, is unreadable, or its command isn't accepted.
+    /// That line of a session's journal, counted from 1, is not one to go on from; why.
     JournalLine {
         session: u64,
         line: u64,
+        why: Option<RestoreFault>,
     },
     /// The folder has sessions of another protocol.
     JournalProtocol,
-    /// The journal of a session can't be read, cut or written, or lines of it were lost; or a pass of the session is in
-    /// use.
+    /// The journal of a session can't be read, cut or marked, or is gone; why, as the system says it.
     JournalLost {
+        session: u64,
+        why: Option<io::Error>,
+    },
+    /// Lines of a session's journal were lost while it was served. That was told then, so it has no line.
+    JournalBroken {
         session: u64,
     },
     /// Memory ran out.
@@ -210,12 +216,13 @@ impl fmt::Display for ToolFault<'_> {
             ToolFault::Bind { .. } => f.write_str("refused bind"),
             ToolFault::Accept => f.write_str("refused accept"),
             ToolFault::Lost { session } => write!(f, "refused lost {session}"),
-            ToolFault::JournalFile { session, .. } | ToolFault::JournalLost { session } => {
+            ToolFault::JournalFile { session, .. } | ToolFault::JournalLost { session, .. } => {
                 write!(f, "refused journal {session}")
             }
-            ToolFault::JournalLine { session, line } => {
+            ToolFault::JournalLine { session, line, .. } => {
                 write!(f, "refused journal {session} {line}")
             }
+            ToolFault::JournalBroken { .. } => Ok(()),
             ToolFault::JournalProtocol => f.write_str("refused journal protocol"),
             ToolFault::Memory => f.write_str("refused memory"),
         }
@@ -231,14 +238,41 @@ pub fn fault_line(alloc: Global, fault: &ToolFault<'_>) -> Result<Vec<u8>, Alloc
     Ok(fault.to_string(alloc)?.into_bytes())
 }
 
-/// What the system says of a fault of a file, of the port or of a journal, if it is kept.
-pub(crate) fn reason_of<'f>(fault: &'f ToolFault<'_>) -> Option<&'f io::Error> {
+// What the system says of a fault of a file, of the port or of a journal, if it is kept.
+fn reason_of<'f>(fault: &'f ToolFault<'_>) -> Option<&'f io::Error> {
     match fault {
         ToolFault::File { why, .. } => why.as_ref(),
         ToolFault::Read { why } => why.as_ref(),
         ToolFault::Bind { why } => why.as_ref(),
         ToolFault::JournalFile { why, .. } => why.as_ref(),
+        ToolFault::JournalLost { why, .. } => why.as_ref(),
         _ => None,
+    }
+}
+
+// Prints the line of the fault. Where there is no memory for it, what is displayed of the fault is printed, without
+// allocating.
+fn report_line<R: AllocGlobal + Eprint>(rt: &R, fault: &ToolFault<'_>) -> io::Result<()> {
+    if let Ok(line) = fault_line(rt.alloc(), fault) {
+        if let Ok(text) = str::from_utf8(line.as_slice()) {
+            return eprintln!(rt; "{text}");
+        }
+    }
+    eprintln!(rt; "{fault}")
+}
+
+/// Prints what went wrong, unless that was done when it did, and after it why, if that is kept.
+pub(crate) fn report<R: AllocGlobal + Eprint>(rt: &R, fault: &ToolFault<'_>) -> io::Result<()> {
+    if let ToolFault::JournalBroken { .. } = fault {
+        return Ok(());
+    }
+    report_line(rt, fault)?;
+    if let ToolFault::JournalLine { why: Some(why), .. } = fault {
+        return eprintln!(rt; "{why}");
+    }
+    match reason_of(fault) {
+        Some(why) => eprintln!(rt; "{why}"),
+        None => Ok(()),
     }
 }
 
@@ -253,6 +287,12 @@ pub(crate) fn without_reason<'a>(fault: ToolFault<'a>) -> ToolFault<'a>
         ToolFault::Read { .. } => ToolFault::Read { why: None },
         ToolFault::Bind { .. } => ToolFault::Bind { why: None },
         ToolFault::JournalFile { session, .. } => ToolFault::JournalFile { session, why: None },
+        ToolFault::JournalLost { session, .. } => ToolFault::JournalLost { session, why: None },
+        ToolFault::JournalLine { session, line, .. } => ToolFault::JournalLine {
+            session,
+            line,
+            why: None,
+        },
         fault => fault,
     }
 }
@@ -304,6 +344,7 @@ pub fn status(fault: &ToolFault<'_>) -> u8
         | ToolFault::Accept
         | ToolFault::Lost { .. }
         | ToolFault::JournalLost { .. }
+        | ToolFault::JournalBroken { .. }
         | ToolFault::Memory => 4,
     }
 }

@@ -1,12 +1,17 @@
 //! The files that record a server's sessions.
-ghost use Rattle.std.specs.Prelude.{◌≡◌, ◌+◌, ◌<◌, ◌≤◌, ◌^◌, ℕ, IfErr, IfOk, All, length, map};
+ghost use Rattle.std.specs.Prelude.{◌≡◌, ◌+◌, ◌<◌, ◌≤◌, ◌^◌, ℕ, Ok, IfErr, IfOk, IfSome, All, length, map};
 ghost use Rattle.mps_hub.specs.Places.{IsSession};
 ghost use Rattle.mps_local.specs.Local.{plain};
 ghost use Rattle.mps_program.specs.Rooms.{IsRestoredRoom};
 ghost use Rattle.mps_program.specs.Journals.{IsFolderFault, IsFileFaultOf, IsJournalFault, IsOneFault};
 ghost use Rattle.mps_program.specs.Journals.{of_restoring};
+ghost use Rattle.mps_program.specs.declared.faults.ToolFault.TheVariants.{Memory as OutOfMemory};
 
 use crate::faults::ToolFault;
+use crate::folder::{
+    Begun, has_protocol, make_folder, open_own, sync_folders, unusable, write_whole,
+};
+use crate::journal_file::{About, FileKeeper, parted};
 use crate::rooms::room_of;
 use mps_dev::{OverRead, OverWrite};
 use mps_hub::RestoredRoom;
@@ -16,161 +21,77 @@ use mps_seal::Seal;
 use mps_text::write_protocol;
 use mps_words::JournalFolder;
 use std::alloc::Global;
-use std::fs::{DirBuilder, File};
+use std::fs::File;
+use std::io;
 use std::io::{ErrorKind, Write};
-use std::os::unix::fs::{DirBuilderExt, MetadataExt, OpenOptionsExt};
+use std::os::unix::fs::FileExt;
 use std::rt::Files;
-use std::{fs, io};
 
-// How many bytes the file of a protocol has at most: a text, and an LF, and one byte more.
-const MOST_PROTOCOL: u64 = 65_538;
-
-/// What records a session in a file.
-pub type FileKeeper = Keeper<OverWrite<File>, File>;
-
-/// The rooms of a server's sessions, in order, and what records them: a keeper for each, or none at all.
+/// The rooms of a server's sessions, in order, and what records them: nothing at all, or a keeper for each session that
+/// wasn't refused. Of one that was the room is new, and its fault is among `refused`, which are fewer than the sessions.
 #[derive(Drop)]
-pub struct Sessions {
+pub struct Sessions<'a> {
     pub rooms: Vec<RestoredRoom>,
-    pub keepers: Vec<FileKeeper>,
+    pub keepers: Vec<Option<FileKeeper>>,
+    pub refused: Vec<ToolFault<'a>>,
 }
 
-// Makes the folder for its owner alone, unless it is there.
-fn make_folder<R: Files>(rt: &R, folder: &str) -> io::Result<()> {
-    let mut builder = DirBuilder::new();
-    builder.mode(0o700);
-    match builder.create(rt, folder) {
-        Err(error) if error.kind() != ErrorKind::AlreadyExists => Err(error),
-        _ => Ok(()),
-    }
+// What is the same for all journals of a folder.
+#[derive(Drop)]
+struct Folder<'o, 'a> {
+    alloc: Global,
+    opening: &'o Opening,
+    // the protocol's text
+    protocol: &'o [u8],
+    journal: JournalFolder<'a>,
+    verbose: bool,
 }
 
-// Writes a file for its owner alone, whole or not at all: first under another name, of which an earlier start may have
-// left a file, and someone else a link.
-fn write_whole<R: Files<File = File>>(
-    rt: &R,
-    path: &str,
-    beside: &str,
-    text: &[u8],
-) -> io::Result<()> {
-    let _left = fs::remove_file(rt, beside);
-    let mut options = File::options();
-    options.write(true).create_new(true).mode(0o600);
-    let mut file = options.open(rt, beside)?;
-    file.write_all(text)?;
-    file.write_all(b"\n")?;
-    file.sync_all()?;
-    fs::rename(rt, beside, path)
+// The faults of sessions that were refused while others go on. Where it is strict none does.
+#[derive(Drop)]
+struct Refusals<'a> {
+    strict: bool,
+    first: u64,
+    sessions: u64,
+    faults: Vec<ToolFault<'a>>,
 }
 
-// Whether these bytes are the text and an LF.
-fn is_line(bytes: &[u8], text: &[u8]) -> bool {
-    match bytes.split_last() {
-        Some((end, front)) => *end == b'\n' && front == text,
-        None => false,
-    }
-}
-
-// Says whether the folder has the protocol of that text already. Another one there is a fault.
-fn has_protocol<'a, R: Files<File = File> + AllocGlobal>(
-    rt: &R,
-    folder: &'a str,
-    path: &str,
-    text: &[u8],
-) -> Result<bool, ToolFault<'a>>
-    ensures { IfErr result (IsFolderFault folder.now) }
-{
-    match file_bytes(rt, path) {
-        Ok(found) if is_line(found.as_slice(), text) => Ok(true),
-        Ok(_) => Err(ToolFault::JournalProtocol),
-        Err(error) => match error.kind() {
-            ErrorKind::NotFound => Ok(false),
-            ErrorKind::OutOfMemory => Err(ToolFault::Memory),
-            _ => Err(unusable(folder, error)),
-        },
+impl<'a> Refusals<'a> {
+    // What was done for a session; or nothing, where that failed and the others go on. Where memory ran out none does.
+    fn or_none<T: Drop>(
+        &mut self,
+        session: u64,
+        done: Result<T, ToolFault<'a>>,
+    ) -> Result<Option<T>, ToolFault<'a>>
+        requires session { IsSession self.old.first self.old.sessions session }
+        requires fault { IfErr done (IsOneFault session) }
+        ensures first { self.new.first ≡ self.old.first }
+        ensures sessions { self.new.sessions ≡ self.old.sessions }
+        ensures ok { IfOk result (λ found. IfSome found (λ x. done.entry ≡ Ok x)) }
+        ensures fault { IfErr result (IsFileFaultOf self.old.first self.old.sessions) }
+        ensures refused { All (IsFileFaultOf self.old.first self.old.sessions) self.old.faults.items
+            → All (IsFileFaultOf self.old.first self.old.sessions) self.new.faults.items }
+    {
+        match done {
+            Ok(value) => Ok(Some(value)),
+            Err(ToolFault::Memory) => Err(ToolFault::Memory),
+            Err(fault) => {
+                if self.strict {
+                    return Err(fault);
+                }
+                self.faults.push(fault)?;
+                Ok(None)
+            }
+        }
     }
 }
 
-// The folder can't be used, for what the system says.
-fn unusable<'a>(folder: &'a str, error: io::Error) -> ToolFault<'a>
-    ensures { IsFolderFault folder.now result }
-{
-    ToolFault::File {
-        name: folder,
-        why: Some(error),
-    }
-}
-
-// What the file has, or nothing where that is more than any protocol; nothing but a file is opened, since a pipe might be
-// waited for.
-fn file_bytes<R: Files + AllocGlobal>(rt: &R, path: &str) -> io::Result<Vec<u8>> {
-    let about = fs::metadata(rt, path)?;
-    if !about.is_file() {
-        return Err(io::Error::from(ErrorKind::InvalidInput));
-    }
-    if about.len() > MOST_PROTOCOL {
-        return Ok(Vec::new(rt.alloc()));
-    }
-    fs::read(rt, path)
-}
-
-// Whether the path is the name of this file itself, and of no link to it.
-fn names<R: Files>(rt: &R, path: &str, file: &File) -> io::Result<bool> {
-    let named = fs::symlink_metadata(rt, path)?;
-    let opened = file.metadata()?;
-    Ok(named.dev() == opened.dev() && named.ino() == opened.ino())
-}
-
-// Opens a journal to be read and added to, for its owner alone, and locks it. It has to be the folder's owner's, and no
-// link.
-fn open_journal<R: Files<File = File>>(rt: &R, folder: &str, path: &str) -> io::Result<File> {
-    // before it is opened, which would make the file that a link leads to
-    if fs::symlink_metadata(rt, path).is_ok_and(|named| named.is_symlink()) {
-        return Err(io::Error::from(ErrorKind::InvalidInput));
-    }
-    let mut options = File::options();
-    options.read(true).append(true).create(true).mode(0o600);
-    let file = options.open(rt, path)?;
-    let about = file.metadata()?;
-    if !about.is_file() || !names(rt, path, &file)? {
-        return Err(io::Error::from(ErrorKind::InvalidInput));
-    }
-    if about.uid() != fs::metadata(rt, folder)?.uid() {
-        return Err(io::Error::from(ErrorKind::PermissionDenied));
-    }
+// The file, once no other process has it.
+fn locked(file: File) -> io::Result<File> {
     match file.try_lock() {
         Ok(()) => Ok(file),
         Err(why) => Err(io::Error::from(why)),
     }
-}
-
-// Opens the journals of so many sessions from that one on.
-fn open_journals<'a, R: Files<File = File> + AllocGlobal>(
-    rt: &R,
-    folder: &'a str,
-    first: u64,
-    sessions: u64,
-) -> Result<Vec<File>, ToolFault<'a>>
-    requires { first + sessions < 2 ^ 64 }
-    ensures count { IfOk result (λ files. length files.items ≡ sessions) }
-    ensures fault { IfErr result (IsFileFaultOf first sessions) }
-{
-    let alloc = rt.alloc();
-    let mut files = Vec::new(alloc);
-    for place in 0..sessions {
-        let session = first + place;
-        let path = format!(in alloc; "{folder}/{session}.journal")?;
-        match open_journal(rt, folder, path.as_str()) {
-            Ok(file) => files.push(file)?,
-            Err(why) => {
-                return Err(ToolFault::JournalFile {
-                    session,
-                    why: Some(why),
-                });
-            }
-        }
-    }
-    Ok(files)
 }
 
 // Why a session was not restored, as the program tells it.
@@ -178,11 +99,28 @@ fn unrestored<'a>(session: u64, fault: RestoreFault) -> ToolFault<'a>
     ensures { result ≡ of_restoring session fault }
 {
     match fault {
-        RestoreFault::Read => ToolFault::JournalLost { session },
+        RestoreFault::Read => ToolFault::JournalLost { session, why: None },
         RestoreFault::Memory => ToolFault::Memory,
         RestoreFault::Unreadable { line }
         | RestoreFault::Refused { line }
-        | RestoreFault::Changed { line } => ToolFault::JournalLine { session, line },
+        | RestoreFault::Changed { line } => ToolFault::JournalLine {
+            session,
+            line,
+            why: Some(fault),
+        },
+    }
+}
+
+// The journal of the session can't be used, for what the system says.
+fn lost<'a>(session: u64, error: io::Error) -> ToolFault<'a>
+    ensures { IsOneFault session result }
+{
+    if error.kind() == ErrorKind::OutOfMemory {
+        return ToolFault::Memory;
+    }
+    ToolFault::JournalLost {
+        session,
+        why: Some(error),
     }
 }
 
@@ -193,147 +131,337 @@ struct RestoredFile {
     restored: Restored,
 }
 
-// The room of a session, restored from its file, whose lines go by the protocol of that text.
-fn restore_file<'a>(
-    alloc: Global,
-    opening: &Opening,
-    protocol: &[u8],
-    session: u64,
-    file: &File,
-) -> Result<(RestoredRoom, Restored), ToolFault<'a>>
-    ensures room { IfOk result (λ r. IsRestoredRoom opening.now.roles (map plain opening.now.types.items) r.0) }
-    ensures fault { IfErr result (IsOneFault session) }
-{
-    let mut room = room_of(alloc, opening)?;
-    let first = Seal::first(alloc, protocol, session)?;
-    match room.restore_from(alloc, first, &mut OverRead::new(file)) {
-        Ok(restored) => Ok((room, restored)),
-        Err(fault) => Err(unrestored(session, fault)),
+impl<'o, 'a> Folder<'o, 'a> {
+    // Whether the folder has the protocol already. Another one there is a fault.
+    fn knows_protocol<R: Files<File = File> + AllocGlobal>(
+        &self,
+        rt: &R,
+    ) -> Result<bool, ToolFault<'a>>
+        ensures { IfErr result (IsFolderFault self.now.journal.folder.now) }
+    {
+        let folder = self.journal.folder;
+        let path = format!(in self.alloc; "{folder}/protocol")?;
+        has_protocol(rt, folder, path.as_str(), self.protocol)
     }
-}
 
-// Restores each session from its file, of which the first has that number.
-fn restore_all<'a>(
-    alloc: Global,
-    opening: &Opening,
-    protocol: &[u8],
-    first: u64,
-    files: Vec<File>,
-) -> Result<(Vec<RestoredRoom>, Vec<RestoredFile>), ToolFault<'a>>
-    requires { first + length files.items < 2 ^ 64 }
-    ensures count { IfOk result (λ r. length r.1.items ≡ length files.items) }
-    ensures rooms { IfOk result (λ r. length r.0.items ≡ length files.items) }
-    ensures restored { IfOk result (λ r.
-        All (IsRestoredRoom opening.now.roles (map plain opening.now.types.items)) r.0.items) }
-    ensures fault { IfErr result (IsFileFaultOf first (length files.items)) }
-{
-    let mut rooms = Vec::with_capacity(alloc, files.len())?;
-    let mut read = Vec::with_capacity(alloc, files.len())?;
-    for file in files {
-        let session = first + rooms.len() as u64;
-        let (room, restored) = restore_file(alloc, opening, protocol, session, &file)?;
-        rooms.push_reserved(room);
-        read.push_reserved(RestoredFile { file, restored });
+    // Makes the folder, unless it is there, and opens the file that says which sessions have begun. A folder of another
+    // protocol is a fault.
+    fn enter<R: Files<File = File> + AllocGlobal>(&self, rt: &R) -> Result<Begun, ToolFault<'a>>
+        ensures { IfErr result (IsFolderFault self.now.journal.folder.now) }
+    {
+        let folder = self.journal.folder;
+        if let Err(error) = make_folder(rt, folder) {
+            return Err(unusable(folder, error));
+        }
+        self.knows_protocol(rt)?;
+        match Begun::open(rt, folder) {
+            Ok(begun) => Ok(begun),
+            Err(error) => Err(unusable(folder, error)),
+        }
     }
-    Ok((rooms, read))
-}
 
-// Cuts the file to its whole lines, marks it where its lines had no seals so far, and makes it the keeper of so many.
-fn keeper<'a>(
-    alloc: Global,
-    session: u64,
-    read: RestoredFile,
-    sync: bool,
-) -> Result<FileKeeper, ToolFault<'a>>
-    ensures { IfErr result (IsOneFault session) }
-{
-    let RestoredFile { file, restored } = read;
-    if file.set_len(restored.bytes as u64).is_err() {
-        return Err(ToolFault::JournalLost { session });
+    // Writes the protocol into the folder, where it has none. While the journals were not locked another server may have.
+    fn write_protocol<R: Files<File = File> + AllocGlobal>(
+        &self,
+        rt: &R,
+    ) -> Result<(), ToolFault<'a>>
+        ensures { IfErr result (IsFolderFault self.now.journal.folder.now) }
+    {
+        if self.knows_protocol(rt)? {
+            return Ok(());
+        }
+        let folder = self.journal.folder;
+        let path = format!(in self.alloc; "{folder}/protocol")?;
+        let beside = format!(in self.alloc; "{folder}/protocol.new")?;
+        match write_whole(rt, path.as_str(), beside.as_str(), self.protocol) {
+            Ok(()) => Ok(()),
+            Err(error) => Err(unusable(folder, error)),
+        }
     }
-    let Ok(sink) = file.try_clone() else {
-        return Err(ToolFault::JournalLost { session });
-    };
-    let Chain { seal, is_sealed } = restored.chain;
-    let mut book = Book::new(OverWrite::new(sink), restored.lines, seal);
-    if !is_sealed && book.mark(alloc).is_err() {
-        return Err(ToolFault::JournalLost { session });
-    }
-    if sync && file.sync_all().is_err() {
-        return Err(ToolFault::JournalLost { session });
-    }
-    Ok(Keeper::new(alloc, book, sync.then_some(file))?)
-}
 
-// The keeper of each session, of which the first has that number.
-fn record_all<'a>(
-    alloc: Global,
-    first: u64,
-    read: Vec<RestoredFile>,
-    sync: bool,
-) -> Result<Vec<FileKeeper>, ToolFault<'a>>
-    requires { first + length read.items < 2 ^ 64 }
-    ensures count { IfOk result (λ keepers. length keepers.items ≡ length read.items) }
-    ensures fault { IfErr result (IsFileFaultOf first (length read.items)) }
-{
-    let mut keepers = Vec::with_capacity(alloc, read.len())?;
-    for one in read {
-        let session = first + keepers.len() as u64;
-        keepers.push_reserved(keeper(alloc, session, one, sync)?);
+    // Has the disk store what the folder has, where it is synced.
+    fn sync<R: Files<File = File>>(&self, rt: &R, begun: &Begun) -> Result<(), ToolFault<'a>>
+        ensures { IfErr result (IsFolderFault self.now.journal.folder.now) }
+    {
+        if !self.journal.sync {
+            return Ok(());
+        }
+        let folder = self.journal.folder;
+        let parent = format!(in self.alloc; "{folder}/..")?;
+        let synced = begun
+            .sync()
+            .and_then(|()| sync_folders(rt, folder, parent.as_str()));
+        match synced {
+            Ok(()) => Ok(()),
+            Err(error) => Err(unusable(folder, error)),
+        }
     }
-    Ok(keepers)
+
+    // Opens the journal of the session, and locks it.
+    fn open<R: Files<File = File>>(&self, rt: &R, session: u64) -> Result<File, ToolFault<'a>>
+        ensures { IfErr result (IsOneFault session) }
+    {
+        let folder = self.journal.folder;
+        let path = format!(in self.alloc; "{folder}/{session}.journal")?;
+        match open_own(rt, folder, path.as_str()).and_then(locked) {
+            Ok(file) => Ok(file),
+            Err(why) => Err(ToolFault::JournalFile {
+                session,
+                why: Some(why),
+            }),
+        }
+    }
+
+    // The room of the session as its file leaves it, and how far the file was read.
+    fn restore(&self, session: u64, file: &File) -> Result<(RestoredRoom, Restored), ToolFault<'a>>
+        ensures room { IfOk result
+            (λ r. IsRestoredRoom self.now.opening.now.roles (map plain self.now.opening.now.types.items) r.0) }
+        ensures fault { IfErr result (IsOneFault session) }
+    {
+        let mut room = room_of(self.alloc, self.opening)?;
+        let first = Seal::first(self.alloc, self.protocol, session)?;
+        match room.restore_from(self.alloc, first, &mut OverRead::new(file)) {
+            Ok(restored) => Ok((room, restored)),
+            Err(fault) => Err(unrestored(session, fault)),
+        }
+    }
+
+    // The same, with the file. A file of a session that has begun, but has no line, was lost.
+    fn restore_one<R: Files<File = File>>(
+        &self,
+        rt: &R,
+        begun: &Begun,
+        session: u64,
+    ) -> Result<(RestoredRoom, RestoredFile), ToolFault<'a>>
+        ensures room { IfOk result
+            (λ r. IsRestoredRoom self.now.opening.now.roles (map plain self.now.opening.now.types.items) r.0) }
+        ensures fault { IfErr result (IsOneFault session) }
+    {
+        let file = self.open(rt, session)?;
+        let (room, restored) = self.restore(session, &file)?;
+        if restored.bytes == 0 && begun.has(self.alloc, session)? {
+            return Err(lost(session, io::Error::from(ErrorKind::UnexpectedEof)));
+        }
+        Ok((room, RestoredFile { file, restored }))
+    }
+
+    // The session's room and file; of a session that was refused a new room.
+    #[tactic(auto, using(crate::proofs::Naming::new_restored))]
+    fn room_and_file(
+        &self,
+        found: Option<(RestoredRoom, RestoredFile)>,
+    ) -> Result<(RestoredRoom, Option<RestoredFile>), ToolFault<'a>>
+        requires { IfSome found
+            (λ r. IsRestoredRoom self.now.opening.now.roles (map plain self.now.opening.now.types.items) r.0) }
+        ensures room { IfOk result
+            (λ r. IsRestoredRoom self.now.opening.now.roles (map plain self.now.opening.now.types.items) r.0) }
+        ensures fault { IfErr result (λ fault. fault ≡ OutOfMemory) }
+    {
+        match found {
+            Some((room, read)) => Ok((room, Some(read))),
+            None => Ok((room_of(self.alloc, self.opening)?, None)),
+        }
+    }
+
+    // Restores each session from its file.
+    fn restore_all<R: Files<File = File>>(
+        &self,
+        rt: &R,
+        begun: &Begun,
+        refusals: &mut Refusals<'a>,
+    ) -> Result<(Vec<RestoredRoom>, Vec<Option<RestoredFile>>), ToolFault<'a>>
+        requires fits { refusals.old.first + refusals.old.sessions < 2 ^ 64 }
+        ensures first { refusals.new.first ≡ refusals.old.first }
+        ensures sessions { refusals.new.sessions ≡ refusals.old.sessions }
+        ensures rooms { IfOk result (λ r. length r.0.items ≡ refusals.old.sessions) }
+        ensures count { IfOk result (λ r. length r.1.items ≡ refusals.old.sessions) }
+        ensures restored { IfOk result (λ r. All
+            (IsRestoredRoom self.now.opening.now.roles (map plain self.now.opening.now.types.items)) r.0.items) }
+        ensures fault { IfErr result (IsFileFaultOf refusals.old.first refusals.old.sessions) }
+        ensures refused { All (IsFileFaultOf refusals.old.first refusals.old.sessions) refusals.old.faults.items
+            → All (IsFileFaultOf refusals.old.first refusals.old.sessions) refusals.new.faults.items }
+    {
+        let mut rooms = Vec::new(self.alloc);
+        let mut read = Vec::new(self.alloc);
+        for place in 0..refusals.sessions {
+            let session = refusals.first + place;
+            let done = self.restore_one(rt, begun, session);
+            let (room, file) = self.room_and_file(refusals.or_none(session, done)?)?;
+            rooms.push(room)?;
+            read.push(file)?;
+        }
+        Ok((rooms, read))
+    }
+
+    // Cuts the file to its whole lines. What is cut off is added to a file beside it, `K.cut`; where more is to be told, on
+    // standard error it is told how many bytes these are.
+    fn cut<R: Files<File = File> + Eprint>(
+        &self,
+        rt: &R,
+        session: u64,
+        file: &File,
+        whole: u64,
+    ) -> io::Result<()> {
+        let count = file.metadata()?.len().saturating_sub(whole);
+        if count == 0 {
+            return Ok(());
+        }
+        let mut rest = vec![in self.alloc; 0u8; count as usize]?;
+        file.read_exact_at(rest.as_mut_slice(), whole)?;
+        let folder = self.journal.folder;
+        let path = format!(in self.alloc; "{folder}/{session}.cut")?;
+        let mut beside = open_own(rt, folder, path.as_str())?;
+        beside.write_all(rest.as_slice())?;
+        if self.journal.sync {
+            beside.sync_all()?;
+        }
+        if self.verbose {
+            let _told = eprintln!(rt; "cut journal {session} {count}");
+        }
+        file.set_len(whole)
+    }
+
+    // The keeper of the session, whose file is cut to its whole lines, and marked where its lines had no seals so far.
+    fn keeper<R: Files<File = File> + Eprint>(
+        &self,
+        rt: &R,
+        session: u64,
+        read: RestoredFile,
+    ) -> io::Result<FileKeeper> {
+        let RestoredFile { file, restored } = read;
+        self.cut(rt, session, &file, restored.bytes as u64)?;
+        let about = About {
+            session,
+            sync: self.journal.sync,
+            verbose: self.verbose,
+        };
+        let (sink, disk) = parted(self.alloc, file, about)?;
+        let Chain { seal, is_sealed } = restored.chain;
+        let mut book = Book::new(OverWrite::new(sink), restored.lines, seal);
+        if !is_sealed && book.mark(self.alloc).is_err() {
+            return Err(disk.newest_error());
+        }
+        disk.sync_all()?;
+        Ok(Keeper::new(self.alloc, book, Some(disk))?)
+    }
+
+    // The same, once the folder says that the session has begun.
+    fn keep<R: Files<File = File> + Eprint>(
+        &self,
+        rt: &R,
+        begun: &mut Begun,
+        session: u64,
+        read: RestoredFile,
+    ) -> Result<FileKeeper, ToolFault<'a>>
+        ensures { IfErr result (IsOneFault session) }
+    {
+        let kept = match self.keeper(rt, session, read) {
+            Ok(kept) => kept,
+            Err(why) => return Err(lost(session, why)),
+        };
+        match begun.add(self.alloc, session) {
+            Ok(()) => Ok(kept),
+            Err(why) => Err(lost(session, why)),
+        }
+    }
+
+    // The keeper of the session, unless it was refused, or is now.
+    fn keep_one<R: Files<File = File> + Eprint>(
+        &self,
+        rt: &R,
+        begun: &mut Begun,
+        session: u64,
+        read: Option<RestoredFile>,
+        refusals: &mut Refusals<'a>,
+    ) -> Result<Option<FileKeeper>, ToolFault<'a>>
+        requires { IsSession refusals.old.first refusals.old.sessions session }
+        ensures first { refusals.new.first ≡ refusals.old.first }
+        ensures sessions { refusals.new.sessions ≡ refusals.old.sessions }
+        ensures fault { IfErr result (IsFileFaultOf refusals.old.first refusals.old.sessions) }
+        ensures refused { All (IsFileFaultOf refusals.old.first refusals.old.sessions) refusals.old.faults.items
+            → All (IsFileFaultOf refusals.old.first refusals.old.sessions) refusals.new.faults.items }
+    {
+        match read {
+            Some(read) => {
+                let done = self.keep(rt, begun, session, read);
+                refusals.or_none(session, done)
+            }
+            None => Ok(None),
+        }
+    }
+
+    // The keeper of each session that wasn't refused.
+    fn keep_all<R: Files<File = File> + Eprint>(
+        &self,
+        rt: &R,
+        begun: &mut Begun,
+        read: Vec<Option<RestoredFile>>,
+        refusals: &mut Refusals<'a>,
+    ) -> Result<Vec<Option<FileKeeper>>, ToolFault<'a>>
+        requires fits { refusals.old.first + refusals.old.sessions < 2 ^ 64 }
+        requires count { length read.items ≡ refusals.old.sessions }
+        ensures count { IfOk result (λ keepers. length keepers.items ≡ length read.items) }
+        ensures fault { IfErr result (IsFileFaultOf refusals.old.first refusals.old.sessions) }
+        ensures refused { All (IsFileFaultOf refusals.old.first refusals.old.sessions) refusals.old.faults.items
+            → All (IsFileFaultOf refusals.old.first refusals.old.sessions) refusals.new.faults.items }
+    {
+        let mut keepers = Vec::with_capacity(self.alloc, read.len())?;
+        for one in read {
+            let session = refusals.first + keepers.len() as u64;
+            let kept = self.keep_one(rt, begun, session, one, refusals)?;
+            keepers.push_reserved(kept);
+        }
+        Ok(keepers)
+    }
 }
 
 /// The rooms of so many sessions, of which the first has that number, as the folder's journals leave them, and the keeper
-/// of each. The folder is made where there is none, and gets the protocol where it has none.
+/// of each. The folder is made where there is none, and gets the protocol where it has none. A session whose journal can't
+/// be used is refused and the others go on, unless the folder is strict.
 ///
-/// The journals are locked as long as the keepers live. Where the folder is of another protocol, or a line of a
-/// journal isn't accepted, no file is changed; journals that weren't there may have been made, with nothing in them.
-pub fn record_sessions<'a, R: Files<File = File> + AllocGlobal>(
+/// The journals are locked as long as the keepers live. Where the folder is of another protocol, or it is strict and a line
+/// of a journal isn't accepted, no file is changed; journals that weren't there may have been made, with nothing in them.
+pub fn record_sessions<'a, R: Files<File = File> + AllocGlobal + Eprint>(
     rt: &R,
     opening: &Opening,
     first: u64,
     sessions: u64,
     journal: JournalFolder<'a>,
-) -> Result<Sessions, ToolFault<'a>>
+    verbose: bool,
+) -> Result<Sessions<'a>, ToolFault<'a>>
     requires { first + sessions < 2 ^ 64 }
     ensures count { IfOk result (λ r. length r.rooms.items ≡ sessions) }
     ensures keepers { IfOk result (λ r. length r.keepers.items ≡ sessions) }
     ensures restored { IfOk result (λ r.
         All (IsRestoredRoom opening.now.roles (map plain opening.now.types.items)) r.rooms.items) }
     ensures fault { IfErr result (IsJournalFault journal.entry.folder.now first sessions) }
+    ensures refused { IfOk result (λ r. All (IsFileFaultOf first sessions) r.refused.items) }
 {
     let alloc = rt.alloc();
-    let folder = journal.folder;
     let protocol = write_protocol(alloc, &opening.protocol)?;
-    let protocol = protocol.as_slice();
-    let path = format!(in alloc; "{folder}/protocol")?;
-    let beside = format!(in alloc; "{folder}/protocol.new")?;
-    if let Err(error) = make_folder(rt, folder) {
-        return Err(unusable(folder, error));
+    let of = Folder {
+        alloc,
+        opening,
+        protocol: protocol.as_slice(),
+        journal,
+        verbose,
+    };
+    let mut refusals = Refusals {
+        strict: journal.strict,
+        first,
+        sessions,
+        faults: Vec::new(alloc),
+    };
+    let mut begun = of.enter(rt)?;
+    let (rooms, read) = of.restore_all(rt, &begun, &mut refusals)?;
+    if (refusals.faults.len() as u64) < sessions {
+        of.write_protocol(rt)?;
     }
-    let known = has_protocol(rt, folder, path.as_str(), protocol)?;
-    let files = open_journals(rt, folder, first, sessions)?;
-    // before the journals were locked another server may have written it
-    let known = known || has_protocol(rt, folder, path.as_str(), protocol)?;
-    let (rooms, read) = restore_all(alloc, opening, protocol, first, files)?;
-    if !known {
-        if let Err(error) = write_whole(rt, path.as_str(), beside.as_str(), protocol) {
-            return Err(unusable(folder, error));
-        }
-    }
-    let keepers = record_all(alloc, first, read, journal.sync)?;
-    if journal.sync {
-        let parent = format!(in alloc; "{folder}/..")?;
-        if let Err(error) = sync_folders(rt, folder, parent.as_str()) {
-            return Err(unusable(folder, error));
-        }
-    }
-    Ok(Sessions { rooms, keepers })
-}
-
-// Has the disk store which files the folder has, and that it is in its parent.
-fn sync_folders<R: Files<File = File>>(rt: &R, folder: &str, parent: &str) -> io::Result<()> {
-    File::open(rt, folder)?.sync_all()?;
-    File::open(rt, parent)?.sync_all()
+    let keepers = of.keep_all(rt, &mut begun, read, &mut refusals)?;
+    of.sync(rt, &begun)?;
+    Ok(Sessions {
+        rooms,
+        keepers,
+        refused: refusals.faults,
+    })
 }

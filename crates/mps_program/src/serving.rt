@@ -1,21 +1,22 @@
 //! Sessions served to connections.
-ghost use Rattle.std.specs.Prelude.{◌≡◌, ◌+◌, ◌<◌, ◌≤◌, ◌^◌, false, length, map, All, IfErr, IfOk, OnOk};
+ghost use Rattle.std.specs.Prelude.{◌≡◌, ◌+◌, ◌<◌, ◌≤◌, ◌^◌, ℕ, Some, false, length, map, slice_get, All, IfErr, IfOk, OnOk};
 ghost use Rattle.std.specs.Option.{option_map};
 ghost use Rattle.mps_program.specs.Faults.{after_writes, without};
 ghost use Rattle.mps_program.specs.Journals.{IsSessionsFault, recorded_of};
 ghost use Rattle.mps_program.specs.Served.{AreLinesUpTo, AreSessionLines, HasServed, HasServedUpTo, IfLost};
 ghost use Rattle.mps_program.specs.Served.{IsBindFault, IsListeningLine, IsOutFault, IsPortFor, IsServeFault};
-ghost use Rattle.mps_program.specs.Served.{IsSessionLine, IsTellFault};
+ghost use Rattle.mps_program.specs.Served.{IsSessionLine, IsTellFault, is_first_served, past_first, served_of};
 ghost use Rattle.mps_program.specs.Private.Served.{IsHubFault, TellsPort, TookOne, of_serving};
 
-use crate::faults::{ToolFault, told};
+use crate::faults::{ToolFault, report, told, without_reason};
 use crate::files::tell;
-use crate::journals::{FileKeeper, Sessions, record_sessions};
+use crate::journal_file::FileKeeper;
+use crate::journals::{Sessions, record_sessions};
 use crate::load::load_file;
 use crate::rooms::rooms_of;
 use mps_base::write_number;
 use mps_dev::{OverWrite, Sink};
-use mps_hub::{Hub, Limits, ServeFault, Serving, Unguarded, serve_recorded};
+use mps_hub::{Hub, Limits, ServeFault, Serving, Unguarded, first_lost, serve_recorded};
 use mps_open::Opening;
 use mps_room::Room;
 use mps_words::JournalFolder;
@@ -79,32 +80,54 @@ fn tell_session<'a, W: Sink>(
     tell(writer, line.as_slice())
 }
 
-// Tells of each session from this one on, up to the first that is lost.
-#[tactic(auto, using(crate::proofs::Telling::one_more, crate::proofs::Telling::any_tell, crate::proofs::Telling::later_tell, crate::proofs::Telling::none_lost, crate::proofs::Telling::first_lost))]
+// Whether the first of the sessions was served, which these keepers record, or none.
+fn is_first_served(keepers: &[Option<FileKeeper>]) -> bool
+    ensures { result ≡ is_first_served keepers.now }
+{
+    match keepers.first() {
+        Some(keeper) => keeper.is_some(),
+        None => true,
+    }
+}
+
+// What records the sessions past the first.
+fn past_first(keepers: &[Option<FileKeeper>]) -> &[Option<FileKeeper>]
+    ensures { result.now ≡ past_first keepers.now }
+{
+    match keepers.split_first() {
+        Some((_, later)) => later,
+        None => &[],
+    }
+}
+
+// Tells of each session that was served, from this one on, up to the first that is lost.
+#[tactic(auto, using(crate::proofs::Telling::any_tell, crate::proofs::Telling::later_tell, crate::proofs::Telling::none_lost))]
 fn tell_sessions<'a, W: Sink>(
     alloc: Global,
     writer: &mut W,
     session: u64,
+    keepers: &[Option<FileKeeper>],
     rooms: &[Option<Room>],
 ) -> Result<(), ToolFault<'a>>
     requires few { session + length rooms.now < 2 ^ 64 }
     requires writes { W.failed_calls writer.old < 2 ^ 62 }
-    ensures told { OnOk result (TookOne (AreSessionLines session rooms.now) (W.taken writer.old) (W.taken writer.new)) }
+    ensures told { OnOk result
+        (TookOne (AreSessionLines (served_of session keepers.now rooms.now)) (W.taken writer.old) (W.taken writer.new)) }
     ensures fault { IfErr result (IsTellFault session (length rooms.now)) }
-    ensures lost { IfErr result
-        (IfLost (λ k. TookOne (AreLinesUpTo session rooms.now k) (W.taken writer.old) (W.taken writer.new))) }
+    ensures lost { IfErr result (IfLost (λ k.
+        TookOne (AreLinesUpTo (served_of session keepers.now rooms.now) k) (W.taken writer.old) (W.taken writer.new))) }
     ensures writes { W.failed_calls writer.new ≡ after_writes result (W.failed_calls writer.old) }
 {
     let Some((first, later)) = rooms.split_first() else {
         return Ok(());
     };
-    match first {
-        Some(room) => {
-            tell_session(alloc, writer, session, room.entries())?;
-            tell_sessions(alloc, writer, session + 1, later)
+    if is_first_served(keepers) {
+        match first {
+            Some(room) => tell_session(alloc, writer, session, room.entries())?,
+            None => return Err(ToolFault::Lost { session }),
         }
-        None => Err(ToolFault::Lost { session }),
     }
+    tell_sessions(alloc, writer, session + 1, past_first(keepers), later)
 }
 
 // The port of a listener that was to have this one, where 0 is any that is free.
@@ -145,7 +168,7 @@ fn unserved<'a>(fault: ServeFault) -> ToolFault<'a>
     match fault {
         ServeFault::Accept => ToolFault::Accept,
         ServeFault::Memory => ToolFault::Memory,
-        ServeFault::Unrecorded { session } => ToolFault::JournalLost { session },
+        ServeFault::Unrecorded { session } => ToolFault::JournalBroken { session },
     }
 }
 
@@ -162,7 +185,7 @@ fn serve_hub<'a, R, W: Sink>(
     rt: &R,
     writer: &mut W,
     hub: &mut Hub,
-    keepers: &[FileKeeper],
+    keepers: &[Option<FileKeeper>],
     port: u16,
     limits: Limits,
     verbose: bool,
@@ -201,24 +224,29 @@ where
         keepers,
     };
     match serve_recorded(&serving, &listener, limits) {
-        Ok(served) => {
-            tell_lost(rt, served.lost, verbose);
-            Ok(())
-        }
-        Err(fault) => Err(unserved(fault)),
+        Ok(served) => tell_lost(rt, served.lost, verbose),
+        Err(fault) => return Err(unserved(fault)),
+    }
+    match first_lost(keepers) {
+        Some(place) => Err(ToolFault::JournalBroken {
+            session: desk.first() + place as u64,
+        }),
+        None => Ok(()),
     }
 }
 
 /// Tells the port, serves the hub's sessions to connections, and then tells how many entries the journal of each session
-/// has. The keepers record all of the sessions, the first of them, or none. Where more is to be told (`verbose`), it tells
-/// on standard error how many connections were lost, if any were.
+/// has that was served. The keepers, one for each session, record those that they are not `None` of, and the others aren't
+/// served; with none of them nothing is recorded. Where more is to be told (`verbose`), it tells on standard error how many
+/// connections were lost, if any were.
 ///
-/// After a fault nothing more is told: the lines of sessions stop before the first that is lost, which the fault names.
+/// After a fault nothing more is told: the lines of sessions stop before the first that is lost, which the fault names. That
+/// lines of a session's journal were lost is one once all is served.
 pub fn serve_to<'a, R, W: Sink>(
     rt: &R,
     writer: &mut W,
     hub: Hub,
-    keepers: Vec<FileKeeper>,
+    keepers: Vec<Option<FileKeeper>>,
     port: u16,
     limits: Limits,
     verbose: bool,
@@ -238,17 +266,18 @@ where
     requires few { length hub.cells ≤ 16 }
     requires recorded { length keepers.items ≤ length hub.cells }
     requires writes { W.failed_calls writer.old < 2 ^ 62 }
-    ensures told { OnOk result (HasServed port hub.first hub.cells (W.taken writer.old) (W.taken writer.new)) }
+    ensures told { OnOk result
+        (HasServed port hub.first keepers.items hub.cells (W.taken writer.old) (W.taken writer.new)) }
     ensures fault { IfErr result (IsOutFault (length keepers.items) hub.first (length hub.cells)) }
     ensures lost { IfErr result
-        (IfLost (HasServedUpTo port hub.first hub.cells (W.taken writer.old) (W.taken writer.new))) }
+        (IfLost (HasServedUpTo port hub.first keepers.items hub.cells (W.taken writer.old) (W.taken writer.new))) }
     ensures writes { W.failed_calls writer.new ≡ after_writes result (W.failed_calls writer.old) }
 {
     let first = hub.first();
     let mut hub = hub;
     serve_hub(rt, writer, &mut hub, &keepers, port, limits, verbose)?;
     let rooms = hub.close(rt.alloc())?;
-    tell_sessions(rt.alloc(), writer, first, rooms.as_slice())
+    tell_sessions(rt.alloc(), writer, first, &keepers, rooms.as_slice())
 }
 
 /// How a server runs: its port, the number of its first session, how many sessions it has, its limits, and where the
@@ -264,13 +293,14 @@ pub struct Service<'a> {
 
 // The rooms of so many sessions, of which the first has that number, and what records them, if something does.
 #[tactic(auto, using(crate::proofs::Naming::restored_named))]
-fn sessions_of<'a, R: Files<File = File> + AllocGlobal>(
+fn sessions_of<'a, R: Files<File = File> + AllocGlobal + Eprint>(
     rt: &R,
     opening: &Opening,
     first: u64,
     sessions: u64,
     journal: Option<JournalFolder<'a>>,
-) -> Result<Sessions, ToolFault<'a>>
+    verbose: bool,
+) -> Result<Sessions<'a>, ToolFault<'a>>
     requires number { first ≤ 2 ^ 63 }
     requires few { sessions ≤ 16 }
     ensures rooms { IfOk result (λ r. length r.rooms.items ≡ sessions) }
@@ -278,13 +308,45 @@ fn sessions_of<'a, R: Files<File = File> + AllocGlobal>(
         ≡ recorded_of (option_map (λ j. j.folder.now) journal.entry) sessions) }
     ensures named { IfOk result (λ r. All (λ room. room.room.names ≡ opening.now.roles) r.rooms.items) }
     ensures fault { IfErr result (IsSessionsFault (option_map (λ j. j.folder.now) journal.entry) first sessions) }
+    ensures refused { IfOk result (λ r.
+        All (IsSessionsFault (option_map (λ j. j.folder.now) journal.entry) first sessions) r.refused.items) }
 {
     match journal {
-        Some(journal) => record_sessions(rt, opening, first, sessions, journal),
+        Some(journal) => record_sessions(rt, opening, first, sessions, journal, verbose),
         None => Ok(Sessions {
             rooms: rooms_of(rt.alloc(), opening, sessions)?,
             keepers: Vec::new(rt.alloc()),
+            refused: Vec::new(rt.alloc()),
         }),
+    }
+}
+
+// Tells on standard error of each session that was refused, while others are served. Where all were, the first is the fault.
+fn tell_refused<'a, R: AllocGlobal + Eprint>(
+    rt: &R,
+    refused: Vec<ToolFault<'a>>,
+    sessions: u64,
+    verbose: bool,
+) -> Result<(), ToolFault<'a>>
+    ensures { IfErr result (λ fault. (i : ℕ) × (slice_get refused.entry.items i ≡ Some fault)) }
+{
+    let mut refused = refused;
+    let unserved = if refused.len() as u64 == sessions && !refused.is_empty() {
+        Some(refused.remove(0))
+    } else {
+        None
+    };
+    for fault in refused {
+        let fault = if verbose {
+            fault
+        } else {
+            without_reason(fault)
+        };
+        let _told = report(rt, &fault);
+    }
+    match unserved {
+        Some(fault) => Err(fault),
+        None => Ok(()),
     }
 }
 
@@ -320,7 +382,12 @@ where
         limits,
         journal,
     } = service;
-    let Sessions { rooms, keepers } = sessions_of(rt, &opening, first, sessions, journal)?;
+    let Sessions {
+        rooms,
+        keepers,
+        refused,
+    } = sessions_of(rt, &opening, first, sessions, journal, verbose)?;
+    tell_refused(rt, refused, sessions, verbose)?;
     let hub = Hub::of_restored(alloc, &opening.roles, first, rooms)?;
     let mut writer = OverWrite::new(io::writer(rt));
     serve_to(rt, &mut writer, hub, keepers, port, limits, verbose)

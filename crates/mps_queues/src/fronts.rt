@@ -31,7 +31,8 @@ impl Model for Queues {
     ghost invariant = { λ q. length q.fronts ≡ 64 };
 }
 
-// The front of a queue after its first send was received: the pair's next send, if there is one.
+// The front of a queue after its first send is received: the pair's next send, or none. Apart from `take`, which stores
+// it in the array.
 fn taken_front(arena: &Arena, front: Link) -> Link
     ensures { result ≡ taken arena.now.keyed_steps front }
 {
@@ -41,8 +42,8 @@ fn taken_front(arena: &Arena, front: Link) -> Link
     }
 }
 
-// The front of a queue without the pair's last receipt: the send before the old front or, where nothing waited, the
-// pair's last send.
+// The front of a queue after the pair's last receipt is undone: the send before the old front or, where nothing waited,
+// the pair's last send.
 fn returned_front(arena: &Arena, last: Option<Key>, front: Link) -> Link
     ensures { result ≡ returned arena.now.keyed_steps last front }
 {
@@ -52,7 +53,7 @@ fn returned_front(arena: &Arena, last: Option<Key>, front: Link) -> Link
     }
 }
 
-// The front of a queue without the pair's last send: none where that send was the front, else as before.
+// The front of a queue after the pair's last send is undone: none where that send was the front, else as before.
 fn dropped_front(last: Option<Key>, front: Link) -> Link
     ensures { result ≡ dropped last front }
 {
@@ -64,7 +65,7 @@ fn dropped_front(last: Option<Key>, front: Link) -> Link
 }
 
 impl Queues {
-    /// Queues in which nothing waits.
+    /// The queues of 8 roles in which nothing waits: 64 fronts, kept inline. It does not allocate.
     pub fn new() -> Queues
         ensures { AreFronts [] result }
     {
@@ -72,7 +73,7 @@ impl Queues {
         Queues { fronts: [none; 64] }
     }
 
-    /// The key of the first send from one role to the other that isn't received, if there is one.
+    /// The key of the first send from one role to the other that isn't received, or `None` where nothing waits. O(1).
     pub fn front(&self, from: Role, to: Role) -> Option<Key>
         requires from { from < 8 }
         requires to { to < 8 }
@@ -81,8 +82,8 @@ impl Queues {
         self.fronts[from.index() * 8 + to.index()].key()
     }
 
-    /// The key of the k-th send from one role to the other that isn't received, from 0, if so many wait. It takes O(k)
-    /// time.
+    /// The key of the k-th send from one role to the other that isn't received, from 0, or `None` where not so many
+    /// wait. O(k): it walks from the front.
     pub fn nth(&self, arena: &Arena, from: Role, to: Role, k: usize) -> Option<Key>
         requires from { from < 8 }
         requires to { to < 8 }
@@ -98,7 +99,8 @@ impl Queues {
         Some(at)
     }
 
-    /// Puts a send at the end of its pair's queue. The send may join the arena before that or after.
+    /// Appends a send to its pair's queue. Only an empty queue changes, since the arena links the sends; so the send
+    /// may join the arena before that or after. O(1).
     pub fn push(&mut self, from: Role, to: Role, key: Key)
         requires from { from < 8 }
         requires to { to < 8 }
@@ -111,8 +113,8 @@ impl Queues {
         }
     }
 
-    /// Takes the first send off its pair's queue, before its receipt joins the arena, and tells its key; none where
-    /// nothing waits.
+    /// Removes the first send from its pair's queue, before its receipt joins the arena, and returns its key; `None`
+    /// where nothing waits, and then nothing changes. O(1).
     pub fn take(&mut self, arena: &Arena, from: Role, to: Role) -> Option<Key>
         requires from { from < 8 }
         requires to { to < 8 }
@@ -129,7 +131,8 @@ impl Queues {
         front.key()
     }
 
-    /// Puts the send of the pair's last receipt back in front of the queue, before the receipt leaves the arena.
+    /// Undoes `take`: the send of the pair's last receipt is in front of the queue again. Called before the receipt
+    /// leaves the arena. O(1).
     pub fn put_back(&mut self, arena: &Arena, from: Role, to: Role)
         requires from { from < 8 }
         requires to { to < 8 }
@@ -146,7 +149,8 @@ impl Queues {
         self.fronts[at] = returned_front(arena, last, front);
     }
 
-    /// Drops the pair's last send from its queue, before the send leaves the arena.
+    /// Undoes `push`: the pair's last send is in its queue no more. Called before the send leaves the arena, and only
+    /// for one that isn't received. O(1).
     pub fn drop_last(&mut self, arena: &Arena, from: Role, to: Role)
         requires from { from < 8 }
         requires to { to < 8 }

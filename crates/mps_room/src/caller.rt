@@ -39,32 +39,35 @@ pub trait Caller {
     // Whether what it was answered may be told on.
     ghost may_tell: { Self → Bool };
 
-    /// The names of the roles.
+    /// The names of the session's roles, 2 to 8, by which lines are read and written.
     fn roles(&self) -> &Roles
         ensures { result.now ≡ names self.now };
 
-    /// Gives a command without a number, and tells the answer. The last number and the answer that is `kept` stay.
+    /// Gives a command without a number, and returns the answer, a refusal as an answer too. The last number and the
+    /// answer that is `kept` stay.
     fn call(&mut self, command: Command) -> Answer
         ensures call { calls self.old command result self.new }
         ensures last { last self.new ≡ last self.old }
         ensures kept { kept self.new ≡ kept self.old };
 
-    /// The number of the newest numbered command that was accepted, 0 at first.
+    /// The number of the newest numbered command that was accepted; 0 before the first, which has the number 1.
     fn last(&self) -> u64
         ensures { result ≡ last self.now };
 
-    /// The answer to the newest numbered command that was accepted, if there is one.
+    /// The answer to the newest numbered command that was accepted, or `None` before the first. One answer is stored,
+    /// not all.
     fn kept(&self) -> Option<&Answer>
         ensures { option_map (λ a. a.now) result ≡ kept self.now };
 
-    /// Gives a command that asks for a change, with the next number. What is accepted is `kept` under it; what is
-    /// refused leaves the number to come again.
+    /// Gives a command that asks for a change, with the next number, `last` + 1. An accepted answer is `kept` under it;
+    /// a refusal changes nothing, so the number may come again.
     fn call_next(&mut self, number: u64, command: Command) -> Result<(), Refusal>
         requires next { number ≡ last self.old + 1 }
         requires change { IsSome (change_of command) }
         ensures { IsNumbered calls last kept self.old number command self.new (came_of result) };
 
-    /// Whether what the caller was answered may be told on: not where a line that records it was lost.
+    /// Whether what the caller was answered may be sent to the client: not where its record was lost, so that no client
+    /// is told of a step that a restart would forget.
     fn may_tell(&self) -> bool
         ensures { result ≡ may_tell self.now };
 
@@ -82,9 +85,9 @@ pub trait Caller {
         → made d ≡ grown (made c) (role c) x a };
 }
 
-/// Gives a command that asks for a change, with its number. With the next number it is called, and what is accepted is
-/// `kept`. With the last number nothing is called, and its answer is the one that is `kept`, whatever the command asks
-/// for. With any other number nothing is called.
+/// Gives a command that asks for a change at most once by its number, so that a client that lost an answer may send it
+/// again. The next number is called, and an accepted answer `kept`; the last number isn't called again; any other
+/// number is `Wrong`, and changes nothing.
 pub fn call_numbered<C: Caller>(caller: &mut C, number: u64, command: Command) -> Told
     requires { IsSome (change_of command) }
     ensures { IsNumbered C.calls C.last C.kept caller.old number command caller.new result }

@@ -18,8 +18,8 @@ use mps_command::{Answer, Command, Refusal};
 use mps_session::Gist;
 use std::slice;
 
-// Reserves memory for one entry more, and for what the command adds besides: a step, or, where the command may take
-// back steps of others, the entry's place in their lists. Says what is missing, if anything is: `Full`, else `Memory`.
+// Reserves memory for one more entry, and for the indexes beside it: a new step's, or, for a rollback or a return, each
+// other role's list. The error is `Full` at 100,000 entries, else `Memory`; no entry, step or list is changed.
 #[inline(always)]
 fn reserve_entry(
     journal: &mut Vec<NarrowEntry>,
@@ -57,8 +57,8 @@ fn reserve_entry(
     Ok(())
 }
 
-// Adds a new step, or, where the command may take back steps of others, the entry's place to the lists of the roles
-// that hear of it. Memory for it was reserved.
+// Updates the indexes beside the journal: a new step's owner and place, or, for a rollback or a return, the lists of
+// the roles that lost steps. Memory was reserved, so it can't fail.
 #[inline(always)]
 fn note(
     steps: &mut Steps,
@@ -93,7 +93,8 @@ fn note(
     }
 }
 
-// Adds the entry, and what there is to note beside it. Memory for both was reserved.
+// Appends the entry of an accepted command, and updates the indexes beside the journal. Memory was reserved, so it
+// can't fail.
 #[inline(always)]
 fn keep(
     journal: &mut Vec<NarrowEntry>,
@@ -134,7 +135,7 @@ fn keep(
     NarrowEntry::push(journal, role, command, gist, sent_at);
 }
 
-// Of a gist, the numbers of the steps that were taken back; none of a new step.
+// The numbers of the steps that were taken back, by the gist of an answer; none for a new step.
 fn undone_by(gist: &Gist) -> &[StepId]
     ensures { result.now ≡ undone_by (narrow_answer gist.now) }
 {
@@ -146,7 +147,8 @@ fn undone_by(gist: &Gist) -> &[StepId]
 }
 
 impl Room {
-    /// Answers a command that asks for a change, as `apply` does: what is accepted joins the journal with its answer.
+    /// Answers a command that asks for a change. Memory for the entry is reserved first, then the session changes, then
+    /// the entry is stored: so what is accepted is always in the journal, and a refusal changes nothing.
     #[inline(always)]
     pub(crate) fn change(&mut self, role: Role, command: Command) -> Answer
         requires role { role < length self.old.types }
@@ -183,8 +185,9 @@ impl Room {
         }
     }
 
-    // The refusal of a change for which there is no space in the journal or no memory: the machine's, if it refuses,
-    // else `lack`. The session is lent exclusively, since `would` chooses steps on the way; nothing is changed.
+    // The refusal of a change for which the journal has no space or memory: the session's own, if it would refuse
+    // anyway, else `lack`. So being full never hides another reason. Nothing changes; the borrow is exclusive, since
+    // `would` chooses steps on the way.
     fn refused(&mut self, role: Role, command: &Command, lack: Refusal) -> Refusal
         requires role { role < length self.old.types }
         requires change { IsSome (change_of command.now) }

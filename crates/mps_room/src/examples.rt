@@ -2,7 +2,8 @@
 ghost use Rattle.mps_room.specs.Examples.{TheNewsIsWhatOthersTookBack, AnOwnUndoIsNoNews, AFullJournalAcceptsNothing};
 ghost use Rattle.mps_room.specs.Examples.{ANumberIsCalledOnce, ANumberIsToldOneThing};
 
-/// What is answered after short journals, and what numbered commands come to, as worked out by hand.
+/// What is answered after short journals, and what numbered commands come to, as worked out by hand: tests of the
+/// definitions, checked by the prover.
 pub fn worked_journals()
     ensures the_news_is_what_others_took_back { TheNewsIsWhatOthersTookBack }
     ensures an_own_undo_is_no_news { AnOwnUndoIsNoNews }

@@ -18,7 +18,7 @@ pub(crate) struct Heard {
 }
 
 impl Heard {
-    /// The lists of so many roles, which heard of nothing. It does not allocate.
+    /// Empty lists for `count` roles, 2 to 8. It does not allocate.
     pub(crate) fn new(alloc: Global, count: usize) -> Heard
         ensures count { result.count ≡ count }
         ensures each { length result.lists ≡ 8 }
@@ -39,7 +39,8 @@ impl Heard {
         }
     }
 
-    /// The places of the entries that the role hears of, in order. A role that there isn't hears of nothing.
+    /// The places, in the journal and in order, of the entries in which others took back steps of the role; empty for a
+    /// role that isn't there. O(1).
     pub(crate) fn list(&self, role: Role) -> &[u32]
         requires few { self.now.count ≤ 8 }
         requires each { length self.now.lists ≡ 8 }
@@ -53,8 +54,8 @@ impl Heard {
         self.lists[role.index()].as_slice()
     }
 
-    /// Reserves memory for one place more in the list of each role but the asker's, who hears nothing of its own doing.
-    /// After an error some of the lists may have it.
+    /// Reserves memory for one more place in the list of each role but the asker, since the command may take back steps
+    /// of any. Out of memory is the only error: some lists may have more capacity then, and none has another content.
     #[inline(never)]
     pub(crate) fn reserve(&mut self, asker: Role) -> Result<(), AllocError>
         requires few { self.old.count ≤ 8 }
@@ -73,8 +74,8 @@ impl Heard {
         Ok(())
     }
 
-    /// Adds the place of an entry to the list of each role that hears of it: one of these steps, which the asker took
-    /// back, was its own. Memory for it was reserved.
+    /// Appends the place of an entry to the list of each role but the asker of whose steps one was taken back. Memory
+    /// was reserved, so it can't fail.
     #[inline(never)]
     pub(crate) fn note(&mut self, steps: &Steps, asker: Role, ids: &[StepId], place: u32)
         requires few { self.old.count ≤ 8 }
@@ -96,7 +97,7 @@ impl Heard {
     }
 }
 
-// Reserves memory for one place more in the list at `k`.
+// Reserves memory for one more place in the list at `k`. Apart, so that its contract says that the other lists stay.
 fn reserve_at(lists: &mut [Vec<u32>; 8], k: usize) -> Result<(), AllocError>
     requires { k < length lists.old }
     ensures each { length lists.new ≡ length lists.old }
@@ -108,7 +109,8 @@ fn reserve_at(lists: &mut [Vec<u32>; 8], k: usize) -> Result<(), AllocError>
     lists[k].reserve(1)
 }
 
-// Adds a place to the list at `k`, which has space for it.
+// Appends a place to the list at `k`, which has space for it. Apart, so that its contract says that the other lists
+// stay.
 fn push_at(lists: &mut [Vec<u32>; 8], k: usize, place: u32)
     requires list { k < length lists.old }
     requires space { (d : _) → vec_len (slice_index_or lists.old k d) < vec_capacity (slice_index_or lists.old k d) }
@@ -119,7 +121,7 @@ fn push_at(lists: &mut [Vec<u32>; 8], k: usize, place: u32)
     lists[k].push_reserved(place);
 }
 
-// For each of 8 roles whether one of the steps is its own.
+// For each of 8 roles whether one of these steps is its own. O(steps given); it does not allocate.
 fn losers(steps: &Steps, ids: &[StepId]) -> [bool; 8]
     ensures { (p : ℕ) → p < 8 → slice_index_or result p false ≡ list_any (owns steps.now.owners.items p) ids.now }
 {

@@ -15,16 +15,16 @@ ghost use Rattle.mps_room.specs.declared.numbers.Told.{Told};
 
 use crate::caller::Caller;
 
-/// Where the opening types are those of one protocol without faults: after any journal, no command is answered
-/// `Mismatch`.
+/// A law: where the opening types are those of one protocol without faults, no command is refused with `Mismatch`,
+/// after any journal.
 pub fn no_answer_is_a_mismatch()
     ensures { (names : List (List ℕ)) (types : List LocalType) (j : List Entry) (role : ℕ)
         (command : Command) (answer : Answer) → AreOfOneProtocol types
         → MayAnswer answer (answer_to names types j role command) → answer ≢ Refused (Violates Mismatch) }
 {}
 
-/// Where a call of the command has one answer, the command comes to one thing under a number: the same is told, and the
-/// same last number is left, with the same answer.
+/// A law: where the call of a command has one answer, the command under a number has one outcome: the same is told, and
+/// the same last number and kept answer are left.
 pub fn a_numbered_command_has_one_outcome<C: Caller>()
     ensures { (c : C) (n : ℕ) (command : Command) (d e : C) (told other : Told)
         → HasOneAnswer C.calls c command

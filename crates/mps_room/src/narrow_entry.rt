@@ -90,10 +90,9 @@ impl Model for NarrowEntry {
 }
 
 impl NarrowEntry {
-    /// Puts the entry of a command at the end of a journal, by the gist of its answer, which is one of such a command,
-    /// and the place of the entry that gave the message that it took, if it took one. It does not allocate. Each form
-    /// is written where it stays, since a form that came from one of several places would be moved in many small
-    /// pieces.
+    /// Appends the entry of an accepted command to a journal with space for it, by the gist of its answer and the place
+    /// of the entry that sent what it took, if it took a message. It does not allocate. Each form is written in place:
+    /// one that came from several places would be moved in small pieces.
     #[inline(always)]
     pub(crate) fn push(
         journal: &mut Vec<NarrowEntry>,
@@ -114,15 +113,15 @@ impl NarrowEntry {
                 // the clause `fits` excludes this and the arms like it
                 _ => unreachable!(),
             },
-            Command::Undo(id) => put(journal, Form::Undone { role: by, id }),
+            Command::Undo(id) => push_form(journal, Form::Undone { role: by, id }),
             Command::Rollback(id) => match gist {
-                Gist::TookBack(ids) => put(journal, Form::RolledBack { role: by, id, ids }),
+                Gist::TookBack(ids) => push_form(journal, Form::RolledBack { role: by, id, ids }),
                 _ => unreachable!(),
             },
             Command::Back(mark) => match gist {
                 Gist::TookBack(ids) => {
                     let mark = NarrowName::of(&mark);
-                    put(
+                    push_form(
                         journal,
                         Form::WentBack {
                             role: by,
@@ -137,15 +136,16 @@ impl NarrowEntry {
         }
     }
 
-    /// Whose entry it is, and its command, made anew.
+    /// The role and the command of the entry, made anew. Only a send of a text allocates; it fails only when out of
+    /// memory.
     pub(crate) fn asked(&self, alloc: Global) -> Result<(Role, Command), AllocError>
         ensures { IfOk result (λ asked. asked ≡ (self.now.entry.role, self.now.entry.command)) }
     {
         Ok((self.form.role(), self.form.command(alloc)?))
     }
 
-    /// The answer to the entry's command, made anew. What a receipt took is found in this journal, in the entry of its
-    /// send.
+    /// The answer to the entry's command, made anew: what a receipt took is copied from the entry of its send in this
+    /// journal. Texts and lists of numbers allocate; it fails only when out of memory.
     pub(crate) fn answer(
         &self,
         journal: &[NarrowEntry],
@@ -169,7 +169,7 @@ impl NarrowEntry {
         })
     }
 
-    /// The numbers of the steps that the entry took back; none of a new step.
+    /// The numbers of the steps that the entry took back, borrowed, the newest first; none for a new step.
     pub(crate) fn undone(&self) -> &[StepId]
         ensures { result.now ≡ undone_by self.now.entry.answer }
     {
@@ -181,17 +181,17 @@ impl NarrowEntry {
     }
 }
 
-// Puts a form at the end of a journal, which has space for it.
+// Appends a form to a journal, which has space for it, so it can't fail. Inlined, so that the form is written in place.
 #[inline(always)]
-fn put(journal: &mut Vec<NarrowEntry>, form: Form)
+fn push_form(journal: &mut Vec<NarrowEntry>, form: Form)
     requires { vec_len journal.old + 1 ≤ vec_capacity journal.old }
     ensures { journal.new.items ≡ journal.old.items ++ narrow_in form ∷ [] }
 {
     journal.push_reserved(NarrowEntry { form });
 }
 
-// Puts the entry of a new step at the end of a journal, with the place of the entry that gave the message that it took.
-// A receipt or a pick has such a place, and nothing else has.
+// `NarrowEntry::push` for a new step. `sent_at` is the place of the entry that sent the message: a receipt and a pick
+// have one, other steps none.
 #[inline(always)]
 fn push_step(
     journal: &mut Vec<NarrowEntry>,
@@ -212,12 +212,12 @@ fn push_step(
     match step {
         Forward::Send { to, value } => {
             let pair = Pair::of(role, to);
-            put(journal, Form::Sent { pair, id, value });
+            push_form(journal, Form::Sent { pair, id, value });
         }
         Forward::Choose { to, label } => {
             let pair = Pair::of(role, to);
             let label = NarrowName::of(&label);
-            put(journal, Form::Chose { pair, label, id });
+            push_form(journal, Form::Chose { pair, label, id });
         }
         Forward::Receive { from, slot } => {
             let pair = Pair::of(role, from);
@@ -230,23 +230,23 @@ fn push_step(
                 id,
                 place,
             };
-            put(journal, form);
+            push_form(journal, form);
         }
         Forward::Pick { from } => {
             let pair = Pair::of(role, from);
             let place = sent_at.unwrap();
-            put(journal, Form::Picked { pair, id, place });
+            push_form(journal, Form::Picked { pair, id, place });
         }
         Forward::Mark { name } => {
             let name = NarrowName::of(&name);
-            put(journal, Form::Marked { role: by, name, id });
+            push_form(journal, Form::Marked { role: by, name, id });
         }
-        Forward::Commit => put(journal, Form::Committed { role: by, id }),
+        Forward::Commit => push_form(journal, Form::Committed { role: by, id }),
     }
 }
 
 impl Pair {
-    // The pair of a role and its peer, each in a byte.
+    // The role and its peer in one byte each: places of roles are below 256.
     fn of(role: Role, peer: Role) -> Pair
         ensures role { result.role ≡ role }
         ensures peer { result.peer ≡ peer }
@@ -257,7 +257,7 @@ impl Pair {
         }
     }
 
-    // The peer, with whom the role has to do.
+    // The peer as a role: the receiver of a send or a choice, the sender of a receipt or a pick.
     fn peer(self) -> Role
         ensures { result ≡ self.peer }
     {
@@ -266,7 +266,7 @@ impl Pair {
 }
 
 impl Form {
-    // The role whose entry it is.
+    // The role whose entry it is, which each form has in a byte.
     fn role(&self) -> Role
         ensures { result ≡ role_in self.now }
     {
@@ -283,7 +283,7 @@ impl Form {
         })
     }
 
-    // The command that was accepted, made anew. Only that of a send of a text allocates.
+    // The command that was accepted, made anew. Only a send of a text allocates; it fails only when out of memory.
     fn command(&self, alloc: Global) -> Result<Command, AllocError>
         ensures { IfOk result (λ command. command ≡ command_in self.now) }
     {
@@ -309,7 +309,8 @@ impl Form {
         })
     }
 
-    // The message that the entry's step gave, if it gave one. Only that of a text allocates.
+    // The message that the entry's step gave, copied; `None` where it gave none. Only a text allocates; it fails only
+    // when out of memory.
     fn given(&self, alloc: Global) -> Result<Option<Message>, AllocError>
         ensures { IfOk result (λ message. message ≡ given_in (command_in self.now)) }
     {
@@ -327,7 +328,8 @@ impl Form {
     }
 }
 
-// The message that the entry at the place gave; none where it gave none, or there is no such entry.
+// The message that the entry at this place of the journal gave, copied; `None` where it gave none, or there is no such
+// entry. It fails only when out of memory.
 fn message_at(
     journal: &[NarrowEntry],
     place: u32,
@@ -341,7 +343,7 @@ fn message_at(
     }
 }
 
-// The answer to a new step of this number, with the message that it took, if it took one.
+// The answer to a new step of this number, with the message that it took, if it took one. It does not allocate.
 fn done(id: u32, got: Option<Message>) -> Answer
     ensures { result ≡ step_done id got }
 {

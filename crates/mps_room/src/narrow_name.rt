@@ -24,7 +24,8 @@ impl Model for NarrowName {
 }
 
 impl NarrowName {
-    /// Puts a name into this form. Its length, at most 32, fits a byte.
+    /// Packs a name into 33 bytes. Its length, at most 32, fits a byte; the padding is copied too, in one move of fixed
+    /// size.
     #[inline(always)]
     pub(crate) fn of(name: &Name) -> NarrowName
         ensures { result ≡ name.now }
@@ -35,7 +36,7 @@ impl NarrowName {
         }
     }
 
-    /// Makes the name again.
+    /// The name again: its bytes are tested once more, which always succeeds, since they were a name's.
     pub(crate) fn name(&self) -> Name
         ensures { result ≡ self.now }
     {

@@ -11,8 +11,9 @@ use crate::steps::Steps;
 use mps_base::{Role, StepId};
 use std::alloc::{AllocError, Global};
 
-/// The numbers of the role's steps that entries of other roles took back, after the first `known` entries. It goes
-/// through those entries alone that the role hears of.
+/// The numbers of the role's steps that entries of other roles took back, after the first `known` entries, oldest entry
+/// first. Only the entries of `heard` are visited: a binary search, and then O(their steps). It fails only when out of
+/// memory.
 pub(crate) fn news(
     alloc: Global,
     journal: &[NarrowEntry],
@@ -33,7 +34,7 @@ pub(crate) fn news(
     Ok(ids)
 }
 
-// Of places that rise, those past the first `known` entries.
+// The places from `known` on, of places that rise: found by binary search, O(log places).
 fn after(places: &[u32], known: u64) -> &[u32]
     ensures { (early late : List ℕ) → places.now ≡ early ++ late → AllByRecursion (λ k. k < known) early
         → AllByRecursion (λ k. known ≤ k) late → result.now ≡ late }
@@ -42,8 +43,8 @@ fn after(places: &[u32], known: u64) -> &[u32]
     &places[first..]
 }
 
-// The numbers of the steps that the entry at the place took back; none where it took none back, or there is no such
-// entry.
+// The numbers of the steps that the entry at this place took back, borrowed; none where it is a new step, or there is
+// no such entry.
 fn undone_at(journal: &[NarrowEntry], place: u32) -> &[StepId]
     ensures { result.now ≡ undone_at (journal_of journal.now) place }
 {
@@ -53,7 +54,8 @@ fn undone_at(journal: &[NarrowEntry], place: u32) -> &[StepId]
     }
 }
 
-// Adds those of the numbers that are of the role's steps. After an error some of them may stand in `out`.
+// Appends those of the numbers that are of the role's steps. When out of memory some may be appended; the list is
+// dropped then.
 fn push_own(
     steps: &Steps,
     role: Role,
@@ -70,7 +72,7 @@ fn push_own(
     Ok(())
 }
 
-// Whether the step of that number is the role's.
+// Whether the step of that number is the role's; no role owns a number that wasn't given out. O(1).
 fn owns(steps: &Steps, role: Role, id: StepId) -> bool
     ensures { result ≡ owns steps.now.owners.items role id }
 {

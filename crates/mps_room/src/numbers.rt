@@ -31,7 +31,8 @@ pub enum Position {
 }
 
 impl Position {
-    /// Where a number stands, by the number of the newest command, which is 0 where none was accepted.
+    /// Where a number stands, by the number of the newest accepted command, 0 where none was: `Next` is `last` + 1,
+    /// `Last` is `last` itself unless it is 0. At 2^64 - 1 there is no next.
     pub fn of(last: u64, number: u64) -> Position
         ensures { IsPosition last number result }
     {
@@ -59,14 +60,14 @@ pub struct Numbers {
 }
 
 impl Numbers {
-    /// Those of a caller that had no command with a number accepted.
+    /// The state of a caller without an accepted numbered command: the last number is 0, and no answer is kept.
     pub fn new() -> Numbers
         ensures { result.newest ≡ None }
     {
         Numbers { newest: None }
     }
 
-    /// Those of so many callers, none of which had a command with a number accepted.
+    /// `Numbers::new` for so many callers, in one list. It fails only when out of memory.
     pub fn of_each(alloc: Global, callers: usize) -> Result<Vec<Numbers>, AllocError>
         ensures count { IfOk result (λ each. length each.items ≡ callers) }
         ensures none { IfOk result (λ each. All (λ n. n.newest ≡ None) each.items) }
@@ -78,7 +79,8 @@ impl Numbers {
         Ok(each)
     }
 
-    /// The last number, 0 at first.
+    /// The number of the newest accepted numbered command, 0 before the first: by it `Position::of` judges the next
+    /// one.
     pub fn last(&self) -> u64
         ensures { result ≡ last_of self.now.newest }
     {
@@ -88,7 +90,7 @@ impl Numbers {
         }
     }
 
-    /// The answer to the newest numbered command that was accepted.
+    /// The answer to the newest accepted numbered command, borrowed; `None` before the first.
     pub fn kept(&self) -> Option<&Answer>
         ensures { option_map (λ a. a.now) result ≡ kept_of self.now.newest }
     {
@@ -98,7 +100,8 @@ impl Numbers {
         }
     }
 
-    /// Keeps the answer under its number, in place of the one before it.
+    /// Stores the answer under its number, and drops the one before it: one is enough, since only the last number may
+    /// come again.
     #[inline(always)]
     pub fn keep(&mut self, number: u64, answer: Answer)
         ensures { self.new.newest ≡ Some (record { number = number; answer = answer }) }

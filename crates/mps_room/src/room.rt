@@ -22,7 +22,7 @@ use serde_json::Value as Json;
 use std::alloc::{AllocError, Global};
 use std::marker::Model;
 
-/// How many entries a journal has at most.
+/// How many entries a journal has at most; then changes are refused as `Full`, and questions still answered.
 pub const MAX_ENTRIES: usize = 100_000;
 
 /// A session with the names of its roles, and a journal of what it accepted.
@@ -56,7 +56,7 @@ impl Model for Room {
 }
 
 impl Room {
-    /// A room of a session in which nothing was done yet. It does not allocate.
+    /// A room of a session before its first step, with an empty journal. It does not allocate.
     pub fn open(alloc: Global, names: Roles, session: Session) -> Room
         requires count { length names ≡ length session.types }
         requires fresh { session.state ≡ initial }
@@ -73,7 +73,7 @@ impl Room {
         }
     }
 
-    /// The names of the roles.
+    /// The names of the session's roles, 2 to 8, in order. The clause `count` says that there is one for each type.
     pub fn names(&self) -> &Roles
         ensures names { result.now ≡ self.now.names }
         ensures count { length result.now ≡ length self.now.types }
@@ -81,8 +81,8 @@ impl Room {
         &self.names
     }
 
-    /// The session. It is as the commands of the journal leave it, each with the answer that it gets after those
-    /// before it.
+    /// The session, to read. It is as the commands of the journal leave it, each with the answer that it gets after
+    /// those before it: so it can be restored from the journal.
     pub fn session(&self) -> &Session
         ensures types { result.now.types ≡ self.now.types }
         ensures state { result.now.state ≡ run self.now.types self.now.journal }
@@ -91,8 +91,8 @@ impl Room {
         &self.session
     }
 
-    /// How many entries the journal has. The clause `legal` serves callers that need it for a proof alone, and write
-    /// `let _legal = room.entries()`.
+    /// How many entries the journal has, at most 100,000; it never falls. The clause `legal` serves callers that need
+    /// it for a proof alone, and write `let _legal = room.entries()`.
     pub fn entries(&self) -> u64
         ensures count { result ≡ length self.now.journal }
         ensures legal { IsLegal self.now.names self.now.types self.now.journal }
@@ -100,7 +100,8 @@ impl Room {
         self.journal.len() as u64
     }
 
-    /// The k-th entry, from 0, if there are so many. It is made anew, since the journal keeps entries in less memory.
+    /// The k-th entry, from 0, or `None` past the end. It is made anew from its stored form of 64 bytes; texts and
+    /// lists of numbers allocate. It fails only when out of memory.
     pub fn entry(&self, k: u64) -> Result<Option<Entry>, AllocError>
         ensures entry { IfOk result (λ entry. entry ≡ slice_get self.now.journal k) }
         // past the end nothing asks for memory
@@ -117,8 +118,8 @@ impl Room {
         }))
     }
 
-    /// The command of the k-th entry, from 0, and whose it is, if there are so many. Unlike `entry`, it makes no
-    /// answer.
+    /// The role and the command of the k-th entry, from 0, or `None` past the end: `entry` without the answer, which
+    /// writers of journal files don't need. It fails only when out of memory.
     pub fn command(&self, k: u64) -> Result<Option<(Role, Command)>, AllocError>
         ensures command { IfOk result (λ asked. asked
             ≡ option_map (λ entry. (entry.role, entry.command)) (slice_get self.now.journal k)) }
@@ -131,9 +132,9 @@ impl Room {
         }
     }
 
-    /// How many entries the journal has, and which of the role's steps the entries of others took back, after the
-    /// first `known` entries. Unproved: it goes through those entries alone in which another role took back one of its
-    /// steps.
+    /// How many entries the journal has, and which of the role's steps the entries of others took back after the first
+    /// `known` entries. It fails only when out of memory. Unproved: it visits those entries alone in which another role
+    /// took back one of its steps.
     pub fn news(&self, role: Role, known: u64) -> Result<(u64, StepIds), AllocError>
         ensures length { IfOk result (λ told. told.0 ≡ length self.now.journal) }
         ensures ids { IfOk result (λ told. told.1 ≡ news self.now.journal role known) }
@@ -149,7 +150,8 @@ impl Room {
         Ok((self.journal.len() as u64, StepIds::of(ids)))
     }
 
-    /// How the session stands, as a JSON value: its history, its queues, and each role.
+    /// The state of the session as a JSON value, for programs that go on with its parts: an object of its history, its
+    /// queues and its roles. O(roles * steps). It fails only when out of memory.
     pub fn show(&self) -> Result<Json, AllocError>
         ensures shown { IfOk result (λ v. view v
             ≡ shown self.now.names self.now.types (run self.now.types self.now.journal).history) }
@@ -160,7 +162,7 @@ impl Room {
     }
 
     /// Answers the role's command. What is accepted joins the journal with its answer. All memory is asked for before
-    /// anything changes; a refusal changes nothing, and out of memory is not reported where the command is refused
+    /// anything changes, so a refusal changes nothing; out of memory is not reported where the command would be refused
     /// anyway.
     #[inline(always)]
     pub fn apply(&mut self, role: Role, command: Command) -> Answer
@@ -178,8 +180,8 @@ impl Room {
         }
     }
 
-    /// Answers the question which of the role's steps others took back after the first `known` entries, or that memory
-    /// ran out.
+    /// The answer to the question which of the role's steps others took back after the first `known` entries; `Refused`
+    /// with `Memory` when out of memory. Not inlined, so that `apply` keeps no space for it.
     #[inline(never)]
     pub fn answer_news(&self, role: Role, known: u64) -> Answer
         ensures answer { MayAnswer result
@@ -192,7 +194,8 @@ impl Room {
         }
     }
 
-    /// Answers the question how the session stands, as text, or that memory ran out.
+    /// The answer to the question how the session stands, as one line of JSON; `Refused` with `Memory` when out of
+    /// memory. Not inlined, so that `apply` keeps no space for it.
     #[inline(never)]
     pub fn answer_show(&self) -> Answer
         ensures answer { (role : ℕ) → MayAnswer result

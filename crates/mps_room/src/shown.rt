@@ -8,7 +8,8 @@ use mps_session::Session;
 use mps_show::{a_shown_text_is_one_line, write_show};
 use std::alloc::{AllocError, Global};
 
-/// The text that shows the session, on one line.
+/// The state of the session as one line of JSON, in a `ShownText`, whose demand on the bytes is proved here. It fails
+/// only when out of memory.
 pub(crate) fn shown_text(
     alloc: Global,
     names: &Roles,

@@ -17,7 +17,8 @@ pub struct Solo {
 }
 
 impl Solo {
-    /// A caller for the role, who gave no command with a number yet.
+    /// A caller for this one role of the room, without an accepted numbered command yet. It takes the room, and does
+    /// not allocate.
     pub fn new(room: Room, role: Role) -> Solo
         requires { role < length room.types }
         ensures room { result.room ≡ room }
@@ -51,28 +52,28 @@ impl Caller for Solo {
 
     ghost may_tell = { λ _. true };
 
-    // The names of the room's roles.
+    // The names of the room's roles, 2 to 8, in order.
     fn roles(&self) -> &Roles {
         self.room.names()
     }
 
-    // Gives the command to the room, for the role.
+    // Applies the command to the room at once, for the role: a `Solo` owns its room, so it never waits.
     fn call(&mut self, command: Command) -> Answer {
         self.room.apply(self.role, command)
     }
 
-    // The number of the newest numbered command that was accepted, 0 at first.
+    // The number of the newest accepted numbered command, 0 before the first.
     fn last(&self) -> u64 {
         self.numbers.last()
     }
 
-    // The answer to the newest numbered command that was accepted, if there is one.
+    // The answer to the newest accepted numbered command, or `None` before the first.
     fn kept(&self) -> Option<&Answer> {
         self.numbers.kept()
     }
 
-    // Gives the command to the room, for the role, and keeps the answer under the number, which is the next, if it is
-    // accepted.
+    // Applies the command to the room at once, and stores an accepted answer under the number. A refusal changes
+    // nothing, so the number may come again.
     fn call_next(&mut self, number: u64, command: Command) -> Result<(), Refusal> {
         match self.room.apply(self.role, command) {
             Answer::Refused(refusal) => Err(refusal),
@@ -83,7 +84,7 @@ impl Caller for Solo {
         }
     }
 
-    // Always: nothing is recorded outside the room, so no line is lost.
+    // Always: nothing is recorded outside the room, so no record is lost.
     fn may_tell(&self) -> bool {
         true
     }

@@ -16,7 +16,7 @@ pub(crate) struct Steps {
 }
 
 impl Steps {
-    /// No steps. It does not allocate.
+    /// The index of a journal without steps. It does not allocate.
     pub(crate) fn new(alloc: Global) -> Steps
         ensures owners { result.owners.items ≡ [] }
         ensures places { result.places.items ≡ [] }
@@ -27,8 +27,8 @@ impl Steps {
         }
     }
 
-    /// Reserves memory for one step more. It looks first whether there is any, since most often there is, and `reserve`
-    /// is a call.
+    /// Reserves memory for one more step. It asks first whether there is any, since most often there is, and `reserve`
+    /// is a call. Out of memory is the only error; owners and places are unchanged then.
     #[inline(always)]
     pub(crate) fn reserve_one(&mut self) -> Result<(), AllocError>
         ensures owners { self.new.owners.items ≡ self.old.owners.items }
@@ -44,7 +44,8 @@ impl Steps {
         Ok(())
     }
 
-    /// Adds a step of the role, whose entry stands at the place. Memory for it was reserved.
+    /// Appends a step, under the next number: its role, and the place of its entry in the journal. Memory was reserved,
+    /// so it can't fail.
     #[inline(always)]
     pub(crate) fn push(&mut self, role: Role, place: u32)
         requires { HasSpace self.old }
@@ -55,7 +56,8 @@ impl Steps {
         self.places.push_reserved(place);
     }
 
-    /// Whose the step of that number is, if the number was given out. Numbers begin with 1.
+    /// The role that did the step of that number, also of one taken back since; `None` where the number wasn't given
+    /// out. O(1): numbers begin with 1.
     pub(crate) fn owner_of(&self, id: StepId) -> Option<Role>
         ensures { (p : ℕ) → owns self.now.owners.items p id ≡ option_map_or (λ owner. owner == p) result false }
     {
@@ -63,7 +65,8 @@ impl Steps {
         Some(Role::new(*self.owners.get(k as usize)?))
     }
 
-    /// The place of the entry of the step of that number, if a number is named and was given out. Numbers begin with 1.
+    /// The place in the journal of the entry of the step of that number; `None` without a number, or where it wasn't
+    /// given out. O(1): numbers begin with 1.
     #[inline(always)]
     pub(crate) fn place_of(&self, id: Option<StepId>) -> Option<u32>
         ensures { result ≡ option_and_then (place_of self.now.places.items) id }

@@ -32,8 +32,8 @@ impl Model for Seal {
     ghost inverse = { λ l. record { 0 = l } };
 }
 
-// The first bytes of the digest.
-fn front(digest: [u8; 32]) -> Seal
+// The first 8 bytes of a SHA-256 digest as a seal: 64 bits are enough to see a mistake, and a seal is no signature.
+fn seal_of_digest(digest: [u8; 32]) -> Seal
     ensures { result ≡ take 8 digest }
 {
     let [a, b, c, d, e, f, g, h, ..] = digest;
@@ -41,7 +41,8 @@ fn front(digest: [u8; 32]) -> Seal
 }
 
 impl Seal {
-    /// The seal before the first line: over the protocol's text, an LF, and the session's number.
+    /// The seal before the first line: over the protocol's text, an LF, and the session's number in decimal; so a
+    /// journal of another protocol or session is seen. It fails only when out of memory, for the number's digits.
     pub fn first(alloc: Global, protocol: &[u8], session: u64) -> Result<Seal, AllocError>
         ensures { IfOk result (λ seal. (number : List ℕ) × IsNumberText number session
             × (seal ≡ first_seal protocol.now number)) }
@@ -52,20 +53,21 @@ impl Seal {
         hasher.update(protocol);
         hasher.update(b"\n");
         hasher.update(number.as_slice());
-        Ok(front(hasher.finalize()))
+        Ok(seal_of_digest(hasher.finalize()))
     }
 
-    /// The seal of the line after this one.
+    /// The seal of the line after this one: over this seal and that line, as in a hash chain. O(line); it does not
+    /// allocate.
     pub fn next(&self, line: &[u8]) -> Seal
         ensures { result ≡ next_seal self.now line.now }
     {
         let mut hasher = Sha256::new();
         hasher.update(self.0.as_slice());
         hasher.update(line);
-        front(hasher.finalize())
+        seal_of_digest(hasher.finalize())
     }
 
-    // As it stands at the end of a line.
+    // The seal as it stands at the end of a line: a space and 16 hexadecimal digits, small letters.
     fn text(&self) -> [u8; SEAL_BYTES]
         ensures { result ≡ seal_text self.now }
     {
@@ -74,7 +76,8 @@ impl Seal {
         text
     }
 
-    /// Writes the seal of the line after this one at the line's end, and gives it.
+    /// Appends to a line, the one after this seal, its own seal, and returns that. Out of memory is the only error, and
+    /// leaves the line unchanged.
     pub fn close(&self, line: &mut Vec<u8>) -> Result<Seal, AllocError>
         ensures next { IfOk result (λ seal. seal ≡ next_seal self.now line.old.items) }
         ensures ok { OnOk result (line.new.items ≡ sealed self.now line.old.items) }
@@ -85,7 +88,8 @@ impl Seal {
         Ok(seal)
     }
 
-    /// The seal of the line after this one, where the line is that seal alone.
+    /// The seal of an empty line after this one, where `line` is that seal alone; else `None`. A journal has such a
+    /// line where its sealed lines begin. It does not allocate.
     pub fn alone(&self, line: &[u8]) -> Option<Seal>
         ensures some { IfSome result (λ seal. line.now ≡ sealed self.now []) }
         ensures next { IfSome result (λ seal. seal ≡ next_seal self.now []) }
@@ -99,7 +103,8 @@ impl Seal {
         }
     }
 
-    /// What stands before the seal of the line after this one, and that seal; none where it doesn't end with that seal.
+    /// The line without its seal, and that seal, where `line` ends with the one that is due after this seal; else
+    /// `None`: the line, or one before it, was changed. O(line); it does not allocate.
     pub fn read<'l>(&self, line: &'l [u8]) -> Option<(&'l [u8], Seal)>
         ensures some { IfSome result (λ r. line.now ≡ sealed self.now r.0.now) }
         ensures next { IfSome result (λ r. r.1 ≡ next_seal self.now r.0.now) }

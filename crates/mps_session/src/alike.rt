@@ -10,7 +10,7 @@ use crate::session::Session;
 use mps_base::{Act, Message, Name, Role, Value};
 use mps_log::{Key, Log};
 
-// Whether the values are the same.
+// Whether the values are equal. `Value` has no `==` of its own, since a text has none.
 fn same_value(a: &Value, b: &Value) -> bool
     ensures { IsTrue result ↔ (a.now ≡ b.now) }
 {
@@ -22,7 +22,7 @@ fn same_value(a: &Value, b: &Value) -> bool
     }
 }
 
-// Whether the messages are the same.
+// Whether the messages are equal: two values or two labels, since a text and a label of the same bytes differ.
 fn same_message(a: &Message, b: &Message) -> bool
     ensures { IsTrue result ↔ (a.now ≡ b.now) }
 {
@@ -33,7 +33,7 @@ fn same_message(a: &Message, b: &Message) -> bool
     }
 }
 
-// Whether both have the same slot, or neither has one.
+// Whether both have the same slot, or neither has one: a receipt and a pick differ by it.
 fn same_slot(a: &Option<Name>, b: &Option<Name>) -> bool
     ensures { IsTrue result ↔ (a.now ≡ b.now) }
 {
@@ -44,7 +44,7 @@ fn same_slot(a: &Option<Name>, b: &Option<Name>) -> bool
     }
 }
 
-// Whether the acts are the same.
+// Whether the acts are equal, with their peers, messages, slots and names. Numbers and roles are not part of an act.
 fn same_act(a: &Act, b: &Act) -> bool
     ensures { IsTrue result ↔ (a.now ≡ b.now) }
 {
@@ -69,7 +69,7 @@ fn same_act(a: &Act, b: &Act) -> bool
     }
 }
 
-// Whether both took the same message, or neither took one.
+// Whether both took equal messages, or neither took one, as steps that are no receipts or picks.
 fn same_taken(a: Option<&Message>, b: Option<&Message>) -> bool
     ensures { IsTrue result ↔ (option_copied a.entry ≡ option_copied b.entry) }
 {
@@ -80,7 +80,8 @@ fn same_taken(a: Option<&Message>, b: Option<&Message>) -> bool
     }
 }
 
-// Whether the steps of the keys, each in its log, did the same and took the same message.
+// Whether the steps of the keys, each in its log, did the same and took the same message. What a receipt took is not in
+// its act, so it is compared apart.
 fn same_deed(a: &Log, x: Key, b: &Log, y: Key) -> bool
     requires first { IsSome (keyed_at x a.now.keyed_steps) }
     requires second { IsSome (keyed_at y b.now.keyed_steps) }
@@ -89,7 +90,7 @@ fn same_deed(a: &Log, x: Key, b: &Log, y: Key) -> bool
     same_act(&a.get(x).act, &b.get(y).act) && same_taken(a.taken(x), b.taken(y))
 }
 
-// Whether the role did the same in both logs, looked at from its last step back.
+// Whether the role did the same in both logs, compared from its last step back. O(steps of the role).
 fn same_past(a: &Log, b: &Log, role: Role) -> bool
     requires role { role < 8 }
     requires first { AreSound a.now.keyed_steps }
@@ -115,9 +116,9 @@ fn same_past(a: &Log, b: &Log, role: Role) -> bool
     other.is_none()
 }
 
-/// Whether two sessions of the same types are causally the same: each role did the same in both, whatever
-/// the order across roles and the numbers. Unproved: each role's acts are compared, with what its receipts took,
-/// and nothing else.
+/// Whether two sessions of the same types are causally equivalent (Danos, Krivine, CONCUR 2004): each role did the same
+/// in both, whatever the order across roles and the numbers. It does not allocate. Unproved: O(steps), each role's acts
+/// are compared, with what its receipts took, and nothing else.
 pub fn same(a: &Session, b: &Session) -> bool
     requires types { a.now.types ≡ b.now.types }
     ensures views { IsTrue result ↔ (session_view a.now ≡ session_view b.now) }

@@ -14,7 +14,8 @@ use crate::session::Session;
 use mps_base::{Role, StepId};
 use mps_command::{Answer, Command, Done, Refusal, StepIds};
 
-// A new step as an answer, and the gist of it, which names the step whose message it took in place of the message.
+// The answer and the gist of a new step: the gist names the step whose message was taken, in place of a copy of the
+// message.
 #[inline(always)]
 fn stepped(told: (Done, Option<StepId>)) -> (Answer, Gist)
     ensures answer { result.0 ≡ machine.stepped (Ok told.0) }
@@ -30,7 +31,7 @@ fn stepped(told: (Done, Option<StepId>)) -> (Answer, Gist)
     (Answer::Done(done), gist)
 }
 
-// A step that was undone as an answer, and the gist of it.
+// The answer and the gist of an undo: the number of the one step. It does not allocate.
 #[inline(always)]
 fn undid(id: StepId, told: StepIds) -> (Answer, Gist)
     ensures answer { result.0 ≡ machine.removed (Ok told) }
@@ -41,7 +42,7 @@ fn undid(id: StepId, told: StepIds) -> (Answer, Gist)
     (Answer::Undone(told), Gist::Undid(id))
 }
 
-// Steps that were taken back as an answer, and the gist of it, which keeps the copy of their numbers.
+// The answer and the gist of a rollback or a return: each has a list of the numbers, allocated before the steps went.
 #[inline(always)]
 fn took_back(told: (StepIds, Vec<StepId>)) -> (Answer, Gist)
     ensures answer { result.0 ≡ machine.removed (Ok told.0) }
@@ -55,9 +56,9 @@ fn took_back(told: (StepIds, Vec<StepId>)) -> (Answer, Gist)
 }
 
 impl Session {
-    /// Does what the role asks for, or says why not. The answer is told, and the gist of it, for whoever keeps what was
-    /// answered. All memory is asked for before anything changes, so a refusal, `Memory` among them, changes nothing.
-    /// The command isn't a question.
+    /// Makes the change that the role asks for, or says why not. Returned are the answer and its gist, a shorter form
+    /// for a journal. All memory is asked for before anything changes, so a refusal, `Memory` among them, changes
+    /// nothing. The command may not be a question.
     #[inline(always)]
     pub fn attempt(&mut self, role: Role, command: &Command) -> Result<(Answer, Gist), Refusal>
         requires role { role < length self.old.types }

@@ -28,9 +28,8 @@ pub(crate) struct Configuration {
 }
 
 impl Configuration {
-    /// The first message that waits for the role from the peer that the step names, if the step would take one. `would`
-    /// asks by it; where a step is taken, receipts and picks have a way of their own, so that no other step looks for a
-    /// message.
+    /// The first message that waits for the role from the peer whom a receipt or pick names; `None` for other steps.
+    /// For `would` alone: where a step is taken, `attempt_receipt` asks for the message together with its step.
     pub(crate) fn first_for(&self, role: Role, step: &Forward) -> Option<&Message>
         ensures moved { moved_by step.now (option_copied result)
             ≡ moved_in (lists_of self.now) role (act_of step.now) }
@@ -48,8 +47,8 @@ impl Configuration {
         }
     }
 
-    /// The node at which the role goes on after the step, or why its type doesn't allow it. `first` is the first
-    /// message that waits for the role, if the step would take one.
+    /// The node to which the role goes on by the step, or why its type doesn't allow it; nothing changes. `first` is
+    /// the first message that waits for the role, if the step would take one.
     #[inline(always)]
     pub(crate) fn verdict(
         &self,
@@ -74,8 +73,9 @@ impl Configuration {
         next_node(&cursor.table, cursor.node, step, first)
     }
 
-    /// The node at which the role goes on after the step, or why it is refused: its type doesn't allow it, else no
-    /// number is left. `first` is the first message that waits for the role, if the step would take one.
+    /// The node to which the role goes on by the step, or why it is refused: its type doesn't allow it, else `Full`, as
+    /// 100,000 numbers were given out. Nothing changes. `first` is the first message that waits, if the step would take
+    /// one.
     #[inline(always)]
     pub(crate) fn allowed(
         &self,
@@ -105,8 +105,8 @@ impl Configuration {
         Ok(node)
     }
 
-    /// Does the step, which is allowed, and tells its number; the role stands at `node` then. Where memory runs out
-    /// nothing is changed.
+    /// Does a step that `allowed` has allowed, moves the role to `node`, and returns the step's number. Out of memory
+    /// is the only error, and changes nothing.
     #[inline(always)]
     pub(crate) fn act(
         &mut self,
@@ -140,7 +140,7 @@ impl Configuration {
         Ok(id)
     }
 
-    /// Puts the role at that node of its table.
+    /// Moves the role to that node of its table: what a step does last, and what its removal undoes. It can't fail.
     pub(crate) fn stand_at(&mut self, role: Role, node: Node)
         requires { role < vec_len self.old.cursors }
         ensures cursors { self.new.cursors.items ≡ slice_set self.old.cursors.items role
@@ -151,8 +151,8 @@ impl Configuration {
     }
 }
 
-/// A copy of the message, where there is one. Its kinds are told apart here, and not by `Message::copy`: what that
-/// gives back would have a place of its own, which each receipt clears.
+/// A copy of an optional message; only a text allocates. Apart from `Message::copy`, so that both kinds are written
+/// straight into the result: a message in between would be cleared at each receipt.
 #[inline(always)]
 pub(crate) fn once_more(
     alloc: Global,

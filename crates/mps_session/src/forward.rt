@@ -17,8 +17,8 @@ use mps_base::{Role, StepId};
 use mps_command::{Done, Forward, Refusal};
 
 impl Session {
-    /// Does a step of the role, and tells its number and the message that it took, if it took one; or says why not: the
-    /// violation, else `Full`, else `Memory`. A refusal changes nothing.
+    /// Does a step of the role, and returns its number and the message that it took, if it took one. The refusal is the
+    /// first that applies: the violation of the role's type, `Full`, `Memory`. A refusal changes nothing.
     pub fn forward(&mut self, role: Role, step: Forward) -> Result<Done, Refusal>
         requires { role < length self.old.types }
         // In a session of one protocol no answer is Mismatch.
@@ -45,8 +45,8 @@ impl Session {
         Ok(done)
     }
 
-    /// Does a step of the role, as `forward` does, and tells besides from which step it took its message, if it took
-    /// one.
+    /// `forward` on a borrowed step, which tells besides the number of the step whose message was taken, if one was:
+    /// journals keep that in place of the message.
     #[inline(always)]
     pub(crate) fn attempt_forward(
         &mut self,
@@ -71,9 +71,8 @@ impl Session {
         }
     }
 
-    // Does the step of a receipt or a pick. The message that waits serves the verdict and the answer, the number of its
-    // step the gist: one look at the front of its queue finds both. No other step looks for a message, so these two
-    // have a way of their own.
+    // `attempt_forward` for a receipt or a pick: one look at the front of the queue serves the verdict, the answer and
+    // the number of the sender's step. The message is copied before anything changes, so a refusal changes nothing.
     #[inline(always)]
     fn attempt_receipt(
         &mut self,
@@ -101,7 +100,8 @@ impl Session {
         Ok((Done { id, got }, source))
     }
 
-    // Does the step of a send, a choice, a mark or a commit, which take no message.
+    // `attempt_forward` for a send, a choice, a mark or a commit, which take no message, so that no queue is looked at.
+    // A refusal changes nothing.
     #[inline(always)]
     fn attempt_other(
         &mut self,

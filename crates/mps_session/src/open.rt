@@ -33,13 +33,14 @@ pub enum OpenFault {
 impl From<AllocError> for OpenFault {
     ghost from_gives = { λ _ e. e ≡ OutOfMemory };
 
-    // A failed allocation is `Memory`.
+    // Lets `?` turn a failed allocation into `Memory`.
     fn from(_e: AllocError) -> OpenFault {
         OpenFault::Memory
     }
 }
 
-// Whether each peer that the type of this role names is another of the n roles.
+// Whether each peer that the role's type names is another of the `n` roles. The recursion is as deep as the type, so it
+// is for types within the limits.
 #[cycle(peers)]
 fn has_peers(n: usize, role: usize, t: &Local) -> bool
     ensures { IsTrue result ↔ HasPeers n role (plain t.now) }
@@ -56,7 +57,7 @@ fn has_peers(n: usize, role: usize, t: &Local) -> bool
     }
 }
 
-// Whether each peer that these branches of this role's type name is another of the n roles.
+// `has_peers` for the types of a choice's branches: whether each peer that they name is another of the `n` roles.
 #[cycle(peers)]
 fn have_peers(n: usize, role: usize, branches: &Branches) -> bool
     ensures { IsTrue result ↔ AllBranchPeers (IsOtherRole n role) (plain_branches branches.now) }
@@ -69,8 +70,8 @@ fn have_peers(n: usize, role: usize, branches: &Branches) -> bool
     }
 }
 
-/// The least role whose type names itself or no role of the session, if there is one. Types without a fault have at
-/// most 256 nodes, and the recursion is no deeper.
+/// The least role whose type names itself or no role of the session, or `None`. For types without a fault, which have
+/// at most 256 nodes: the recursion is no deeper, and the types stay.
 pub(crate) fn first_bad_peer(types: &[Local]) -> Option<Role>
     requires few { length types.now ≤ 8 }
     requires faultless { AreFaultless (map plain types.now) }
@@ -87,8 +88,8 @@ pub(crate) fn first_bad_peer(types: &[Local]) -> Option<Role>
     None
 }
 
-/// The least role whose type names itself or no role of the session, if there is one, where types may have faults and
-/// be of any size. They are taken apart for it, in loops.
+/// `first_bad_peer` for types of any size, with faults or not: recursion could overflow the stack, so they are taken
+/// apart in loops and dropped.
 pub(crate) fn first_bad_peer_of_any_size(mut types: Vec<Local>) -> Option<Role>
     requires { vec_len types ≤ 8 }
     ensures bad { IfSome result (IsFirstBad (map plain types.items)) }
@@ -107,7 +108,8 @@ pub(crate) fn first_bad_peer_of_any_size(mut types: Vec<Local>) -> Option<Role>
     found
 }
 
-/// The least role whose type has a fault, and the type's first fault, if there is one.
+/// The least role whose type has a fault, with the type's first fault, or `None`. The types may be of any size; it does
+/// not allocate.
 pub(crate) fn first_faulty(types: &[Local]) -> Option<(Role, LocalFault)>
     requires { length types.now ≤ 8 }
     ensures faulty { IfSome result (λ r. IsLeastFaulty (map plain types.now) r.0 r.1) }
@@ -122,8 +124,8 @@ pub(crate) fn first_faulty(types: &[Local]) -> Option<(Role, LocalFault)>
     None
 }
 
-/// What a session keeps when nothing was done yet: each role at the node where its type begins, and no step. The types
-/// have no fault.
+/// The configuration before the first step: each role at the first node of its table, and an empty log. The types have
+/// no fault, so out of memory is the only error.
 pub(crate) fn opening(alloc: Global, types: &[Local]) -> Result<Configuration, AllocError>
     requires faultless { AreFaultless (map plain types.now) }
     requires few { length types.now ≤ 8 }
@@ -136,7 +138,8 @@ pub(crate) fn opening(alloc: Global, types: &[Local]) -> Result<Configuration, A
     })
 }
 
-// For each type, in order, its table and the node where it begins.
+// For each type, in order, its table and first node. The types have no fault, so out of memory is the only error;
+// tables made so far are dropped.
 fn cursors(alloc: Global, types: &[Local]) -> Result<Vec<Cursor>, AllocError>
     requires faultless { AreFaultless (map plain types.now) }
     ensures { IfOk result (λ all. AreStarts (map plain types.now) all.items) }

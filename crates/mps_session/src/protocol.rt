@@ -34,7 +34,7 @@ pub enum ProtocolFault {
 impl From<GlobalFault> for ProtocolFault {
     ghost from_gives = { λ e fault. fault ≡ HasFault e };
 
-    // A protocol's own fault is why it has no session.
+    // Lets `?` turn a fault of `check` into this one.
     fn from(fault: GlobalFault) -> ProtocolFault {
         ProtocolFault::Global(fault)
     }
@@ -43,7 +43,7 @@ impl From<GlobalFault> for ProtocolFault {
 impl From<ProjectFault> for ProtocolFault {
     ghost from_gives = { λ e fault. fault ≡ of_projection e };
 
-    // Why a protocol can't be projected is why it has no session.
+    // Lets `?` turn a fault of `project_all` into this one, case by case.
     fn from(fault: ProjectFault) -> ProtocolFault {
         match fault {
             ProjectFault::Unmergeable { role, choice } => ProtocolFault::Unmergeable {
@@ -58,14 +58,14 @@ impl From<ProjectFault> for ProtocolFault {
 impl From<AllocError> for ProtocolFault {
     ghost from_gives = { λ _ fault. fault ≡ OutOfMemory };
 
-    // A failed allocation is `Memory`.
+    // Lets `?` turn a failed allocation into `Memory`.
     fn from(_: AllocError) -> ProtocolFault {
         ProtocolFault::Memory
     }
 }
 
-/// A session of these types, the projections of one protocol without faults, in which nothing was done yet. It fails
-/// for want of memory alone. No command is refused there with `Mismatch`, whatever the roles do.
+/// A session before its first step, of types that the caller has shown to be the projections of one protocol; no
+/// command is ever refused with `Mismatch` there. Out of memory is the only error, and drops the types.
 pub fn open_types(alloc: Global, types: Vec<Local>) -> Result<Session, AllocError>
     requires { AreOfOneProtocol (map plain types.items) }
     ensures { IfOk result (λ session. session ≡ record { types = map plain types.items; state = initial }) }
@@ -80,8 +80,9 @@ pub fn open_types(alloc: Global, types: Vec<Local>) -> Result<Session, AllocErro
     }
 }
 
-/// A session of the protocol, in which nothing was done yet: each role's type is its projection. `Memory` comes only
-/// for a protocol without a fault. No command is refused there with `Mismatch`, whatever the roles do.
+/// A session of the protocol before its first step: the protocol is checked, and each role's type is its projection.
+/// The first fault is named, and `Memory` only where there is no other. No command is ever refused with `Mismatch`
+/// there.
 pub fn open_protocol(alloc: Global, protocol: &Protocol) -> Result<Session, ProtocolFault>
     ensures faultless { OnOk result
         (fault_of protocol.now.roles.items (global_type protocol.now.body) ≡ None) }

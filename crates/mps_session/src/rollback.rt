@@ -27,7 +27,8 @@ use mps_base::{Name, Role, StepId};
 use mps_command::{Refusal, StepIds};
 use std::alloc::{AllocError, Global};
 
-// Memory for so many numbers, and for a copy of them. One number alone is copied without a list.
+// Two empty lists: one with room for `count` numbers, and one for their copy. A single number is copied without a list,
+// so the second has no room then. Out of memory is the only error.
 fn space_for(alloc: Global, count: usize) -> Result<(Vec<StepId>, Vec<StepId>), AllocError>
     ensures none { IfOk result (λ space. vec_len space.0 ≡ 0) }
     ensures first { IfOk result (λ space. space.0.items ≡ []) }
@@ -42,8 +43,8 @@ fn space_for(alloc: Global, count: usize) -> Result<(Vec<StepId>, Vec<StepId>), 
     ))
 }
 
-// The numbers, and a copy of them in the memory that there is for it. One number alone is kept without a list, so its
-// list is the copy.
+// The numbers as an answer, and a copy of them for a gist, in the memory reserved for it: it can't fail. A single
+// number is stored without a list in the answer, so its list is the copy.
 fn with_copy(ids: Vec<StepId>, space: Vec<StepId>) -> (StepIds, Vec<StepId>)
     requires empty { space.items ≡ [] }
     requires space { vec_len ids ≢ 1 → vec_len ids ≤ vec_capacity space }
@@ -61,7 +62,7 @@ fn with_copy(ids: Vec<StepId>, space: Vec<StepId>) -> (StepIds, Vec<StepId>)
     (StepIds::of(ids), copy)
 }
 
-// No numbers, and a copy of them, for a return to a mark that takes nothing back. It does not allocate.
+// No numbers, twice, for a return to a mark that takes nothing back: as `with_copy` gives them. It does not allocate.
 fn nothing(alloc: Global) -> (StepIds, Vec<StepId>)
     ensures first { result.0 ≡ [] }
     ensures copy { result.1.items ≡ [] }
@@ -70,8 +71,8 @@ fn nothing(alloc: Global) -> (StepIds, Vec<StepId>)
 }
 
 impl Configuration {
-    // Memory for the numbers of the chosen steps, so many, and for a copy of them; or why the steps stay: the least
-    // commit among them, or else out of memory.
+    // Room for the numbers of the chosen steps, `count` of them, and for their copy; or why the steps stay: `Final`
+    // with the least commit among them, else `Memory`. Steps stay chosen either way.
     fn space_for_chosen(&self, count: usize) -> Result<(Vec<StepId>, Vec<StepId>), Refusal>
         requires { AreMarksClosed (lists_of self.now).keyed_steps }
         ensures none { IfOk result (λ space. vec_len space.0 ≡ 0) }
@@ -91,9 +92,9 @@ impl Configuration {
         Ok(space_for(self.alloc, count)?)
     }
 
-    /// Removes the step of that number, as definitions name it, and all that depend on it, the newest first, and tells
-    /// their numbers, with a copy for whoever keeps what was answered. Where a commit is among them, the least is
-    /// named. Nothing is changed then, nor where memory runs out.
+    /// Removes the step of that number and all that depend on it, the newest first, and returns their numbers, with a
+    /// copy for a journal. The refusal is `Final` with the least commit among them, else `Memory`; it changes nothing,
+    /// and no step stays chosen.
     #[inline(never)]
     pub(crate) fn take_back(&mut self, id: StepId) -> Result<(StepIds, Vec<StepId>), Refusal>
         requires present { IsSome (step_of (steps (lists_of self.old).keyed_steps) id) }
@@ -131,8 +132,9 @@ impl Configuration {
         }
     }
 
-    /// Whether no commit is among the step of that number and all that depend on it; else the least is named. It does
-    /// not allocate, and no step is chosen when it returns.
+    /// `Ok` where no commit is among the step of that number and all that depend on it, else `Final` with the least:
+    /// what `take_back` would refuse, lack of memory aside. It chooses steps on the way, and none stays chosen. It does
+    /// not allocate.
     pub(crate) fn unless_final(&mut self, id: StepId) -> Result<(), Refusal>
         requires present { IsSome (step_of (steps (lists_of self.old).keyed_steps) id) }
         requires unmarked { marked_keys (lists_of self.old).keyed_steps ≡ [] }
@@ -149,8 +151,8 @@ impl Configuration {
         }
     }
 
-    /// Removes the chosen steps, the newest first, and adds their numbers at the end of `ids`, which has space for
-    /// them.
+    /// Removes the chosen steps, the newest first, so that none is left on which another depends, and appends their
+    /// numbers to `ids`, which has room. It can't fail.
     pub(crate) fn remove_chosen(&mut self, ids: &mut Vec<StepId>)
         requires closed { AreMarksClosed (lists_of self.old).keyed_steps }
         requires members { AllByRecursion
@@ -173,7 +175,7 @@ impl Configuration {
     }
 
     /// The number of the role's first step after its last mark of the name: `None` without such a mark, `Some(None)`
-    /// where no step of the role follows it.
+    /// where no step of the role follows it. O(1).
     pub(crate) fn first_after(&self, role: Role, name: &Name) -> Option<Option<StepId>>
         requires { role < 8 }
         ensures { result ≡ option_map first_number
@@ -188,9 +190,9 @@ impl Configuration {
 }
 
 impl Session {
-    /// Undoes the role's own step of that number and all that depend on it, and tells their numbers, the newest first.
-    /// The refusal is `NoStep`, `NotYours`, `Final` where a commit is among them, or `Memory` where there is none for
-    /// the numbers; it changes nothing.
+    /// Removes the role's own step of that number and all that depend on it, its causal future, and returns their
+    /// numbers, the newest first. The refusal is the first that applies: `NoStep`, `NotYours`, `Final` with the least
+    /// commit among them, `Memory`; it changes nothing.
     pub fn rollback(&mut self, role: Role, id: StepId) -> Result<StepIds, Refusal>
         requires { role < length self.old.types }
         ensures answer { IsAnswer result (machine.rollback self.old.state role id).0 }
@@ -208,7 +210,7 @@ impl Session {
         Ok(ids)
     }
 
-    /// Rolls back as `rollback` does, and gives a copy of the numbers besides, for whoever keeps what was answered.
+    /// `rollback` with a copy of the numbers besides, for a journal; allocated before anything changes.
     #[inline(always)]
     pub(crate) fn attempt_rollback(
         &mut self,
@@ -229,9 +231,9 @@ impl Session {
         self.configuration.take_back(id)
     }
 
-    /// Returns the role to its last mark of the name: its first step after the mark is undone, if there is one, with
-    /// all that depend on it, and their numbers are told, the newest first. The mark stays. The refusal is `NoMark`,
-    /// `Final` where a commit is among them, or `Memory` where there is none for the numbers; it changes nothing.
+    /// Returns the role to its last mark of the name: its first step after the mark is removed, if there is one, with
+    /// all that depend on it; their numbers are returned, the newest first. The mark stays. The refusal is `NoMark`,
+    /// `Final` with the least commit among them, or `Memory`; it changes nothing.
     pub fn back(&mut self, role: Role, name: &Name) -> Result<StepIds, Refusal>
         requires { role < length self.old.types }
         ensures answer { IsAnswer result (machine.back self.old.state role name.now).0 }
@@ -248,7 +250,7 @@ impl Session {
         Ok(ids)
     }
 
-    /// Returns to a mark as `back` does, and gives a copy of the numbers besides, for whoever keeps what was answered.
+    /// `back` with a copy of the numbers besides, for a journal; allocated before anything changes.
     #[inline(always)]
     pub(crate) fn attempt_back(
         &mut self,

@@ -7,7 +7,7 @@ use crate::session::Session;
 use mps_base::Role;
 use mps_command::{Answer, Change, Command};
 
-// Turns a change into the command that asks for it; nothing is copied.
+// The command that asks for the change: the same cases without the questions. Nothing is copied or allocated.
 fn command_of(change: Change) -> Command
     ensures { result ≡ command_of change }
 {
@@ -20,8 +20,8 @@ fn command_of(change: Change) -> Command
 }
 
 impl Session {
-    /// Makes the change that the role asks for, or answers why not, as `attempt` does. An undo is answered like a
-    /// rollback of one step, and is never refused for want of memory. A refusal changes nothing.
+    /// Makes the change that the role asks for, and returns the answer, a refusal as an answer too: one way for all
+    /// kinds of changes, for lists of them. An undo needs no memory. A refusal changes nothing.
     pub fn serve(&mut self, role: Role, change: Change) -> Answer
         requires { role < length self.old.types }
         ensures served { IsChanged self.old.types role change (result_of result)

@@ -14,7 +14,8 @@ use mps_command::{Answer, Change};
 use std::alloc::AllocError;
 
 impl Session {
-    /// Answers changes, each of its role, in turn. The list of answers is allocated before the first change is made.
+    /// Makes changes, each of its role, in turn, and returns their answers, refusals among them. The list of answers is
+    /// allocated first: out of memory for it is the only error, and then no change is made.
     ///
     /// What binds the code is `served`: with the clauses of `forward`, `undo`, `rollback` and `back` it says what is
     /// answered and what is left. `undone`, `refused`, `refused_final`, `kept`, `removed` and `returned` are laws of

@@ -13,7 +13,8 @@ use mps_local::Local;
 use std::alloc::Global;
 use std::marker::Model;
 
-/// How many numbers a session gives out.
+/// How many numbers a session gives out at most, counting steps that were taken back; then steps are refused as `Full`,
+/// and undos still accepted.
 pub const MAX_NUMBERS: u64 = 100_000;
 
 /// One conversation of 2 to 8 roles: their types, and the steps that they did.
@@ -43,9 +44,9 @@ impl Model for Session {
 }
 
 impl Session {
-    /// A session in which nothing was done yet. Any types may be given, of any size: they needn't fit each other. The
-    /// count of roles is looked at first, then the peers that the types name, then other faults of the types; memory
-    /// comes last.
+    /// A session before its first step, of any types, of any size: they needn't fit each other. The first that applies
+    /// is the fault: the count of roles, a peer that a type names, another fault of a type, out of memory. The types
+    /// are dropped then.
     pub fn open(alloc: Global, types: Vec<Local>) -> Result<Session, OpenFault>
         ensures opened { IfOk result (λ session. session
             ≡ record { types = map plain types.items; state = machine.initial }) }

@@ -18,8 +18,8 @@ use mps_log::{Moves, Queue};
 use mps_table::Expect;
 
 impl Session {
-    /// What the role may do first; labels in the order of the branches. A mark or a commit it may
-    /// make always.
+    /// What the role may do first by its type, labels in the order of the branches; a mark or a commit is always
+    /// allowed besides. O(1), and it does not allocate.
     pub fn expect(&self, role: Role) -> Expect<'_>
         requires { role < length self.now.types }
         ensures head { head_of result ≡ head ((session_view self.now).participant role).to_come }
@@ -31,7 +31,8 @@ impl Session {
         cursor.table.expect(cursor.node)
     }
 
-    /// How many roles the session has. Each peer that a role's type names is another of them.
+    /// How many roles the session has, 2 to 8. The clause `peers` says that each peer of a role's type is another of
+    /// them.
     pub fn roles(&self) -> usize
         ensures count { result ≡ length self.now.types }
         ensures some { 2 ≤ result }
@@ -41,14 +42,15 @@ impl Session {
         self.types.len()
     }
 
-    /// How many numbers were given out, also to steps that were taken back since.
+    /// How many numbers were given out: also to steps that were taken back since, so it never falls; at most 100,000.
     pub fn issued(&self) -> u64
         ensures { result + 1 ≡ self.now.state.next }
     {
         self.configuration.log.issued() as u64
     }
 
-    /// How many steps survive. Their numbers rise and were given out, and the view that is shown is their replay.
+    /// How many steps survive, O(1). The clause `sound` says that their numbers rise and were given out, and that the
+    /// view that is shown is their replay.
     pub fn len(&self) -> usize
         ensures count { result ≡ length self.now.state.history }
         ensures sound { machine.IsSound self.now.types self.now.state }
@@ -56,7 +58,8 @@ impl Session {
         self.configuration.log.len()
     }
 
-    /// The k-th surviving step, from 0, if so many survive: its number, its role and its act. It takes O(k) time.
+    /// The k-th surviving step, from 0: its number, its role and its act; or `None` where not so many survive. O(k);
+    /// `moves` walks over all in O(steps).
     pub fn step(&self, k: usize) -> Option<(StepId, Role, &Act)>
         ensures { option_map as_step result ≡ slice_get self.now.state.history k }
     {
@@ -64,7 +67,8 @@ impl Session {
         Some((step.id, step.role, &step.act))
     }
 
-    /// The surviving steps in order, each with the message that it gave or took.
+    /// An iterator over the surviving steps in order, each with the message that it gave or took. It is the log's,
+    /// borrows the session, and does not allocate.
     pub fn moves(&self) -> Moves<'_>
         ensures moves { result ≡ moves_of self.now }
         ensures known { AllByRecursion (λ m. IsKnown (length self.now.types) m.0) result }
@@ -72,7 +76,8 @@ impl Session {
         self.configuration.log.moves()
     }
 
-    /// What the role keeps in the slot; none where the slot isn't bound.
+    /// The role's value in the slot, borrowed; `None` where the slot isn't bound. O(1), by the log; the contract is of
+    /// the machine's view, of which callers know.
     pub fn slot(&self, role: Role, slot: &Name) -> Option<&Value>
         requires { role < length self.now.types }
         ensures { option_copied result
@@ -81,8 +86,9 @@ impl Session {
         self.configuration.log.value(role, slot)
     }
 
-    /// The k-th message that waits, from 0, of those that one role sent to another, if so many wait; none where either
-    /// is no role of the session. It takes O(k) time.
+    /// The k-th message that waits from one role to another, from 0; `None` where not so many wait, or either is no
+    /// role of the session. O(k), by the log; the contract is of the machine's view. `waiting` walks over all in
+    /// O(messages).
     pub fn message(&self, from: Role, to: Role, k: usize) -> Option<&Message>
         ensures { option_copied result
             ≡ slice_get ((session_view self.now).queue from to) k }
@@ -90,15 +96,16 @@ impl Session {
         self.configuration.log.message(from, to, k)
     }
 
-    /// The messages that wait, in order, of those that one role sent to another; none where either is no
-    /// role of the session.
+    /// An iterator over the messages that wait from one role to another, in order of sending; empty where either is no
+    /// role of the session. It is the log's, and does not allocate; the contract is of the machine's view.
     pub fn waiting(&self, from: Role, to: Role) -> Queue<'_>
         ensures { result ≡ (session_view self.now).queue from to }
     {
         self.configuration.log.waiting(from, to)
     }
 
-    /// How many slots of the role are bound.
+    /// How many slots of the role are bound, for `binding` to list. O(1), by the log; the contract is of the machine's
+    /// view.
     pub fn slots(&self, role: Role) -> usize
         requires { role < length self.now.types }
         ensures { result ≡ length ((session_view self.now).participant role).store }
@@ -106,7 +113,8 @@ impl Session {
         self.configuration.log.slots(role)
     }
 
-    /// The role's slot that was first bound as the k-th, from 0, and what the role keeps there, if so many are bound.
+    /// The role's slot that was first bound as the k-th, from 0, and the value in it; `None` where fewer are bound.
+    /// O(1), by the log; the contract is of the machine's view.
     pub fn binding(&self, role: Role, k: usize) -> Option<(&Name, &Value)>
         requires { role < length self.now.types }
         ensures { option_map (deref_pair {K = List ℕ} {X = Value}) result

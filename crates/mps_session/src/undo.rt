@@ -24,7 +24,7 @@ use mps_command::{Refusal, StepIds};
 use mps_log::Key;
 use mps_table::Node;
 
-// Whether the act is a commit.
+// Whether the act is a commit, which no undo and no rollback takes back.
 #[inline(always)]
 fn is_commit(act: &Act) -> bool
     ensures { result ≡ is_commit act.now }
@@ -36,8 +36,8 @@ fn is_commit(act: &Act) -> bool
 }
 
 impl Configuration {
-    /// The key of the role's own step of that number; `NoStep` where no step of the number survives, `NotYours` where
-    /// it is another role's.
+    /// The key of the role's own step of that number; `NoStep` where no step of the number survives, else `NotYours`
+    /// where it is another role's. For undos and rollbacks alike. O(1).
     pub(crate) fn own_step(&self, role: Role, id: StepId) -> Result<Key, Refusal>
         ensures own { OnOk result (owner_fault role
             (step_of (steps (lists_of self.now).keyed_steps) id) ≡ None) }
@@ -58,9 +58,9 @@ impl Configuration {
         }
     }
 
-    /// The key of the role's own step of that number, where it may be undone by itself, or why not: as `own_step`, else
-    /// `Final` for a commit, else `Needed` with the least step that depends on it. What depends on the step is asked by
-    /// its number, as definitions are: to find its key once more takes a few loads.
+    /// The key of the role's own step of that number, where it may be undone alone; else the first that applies of
+    /// `NoStep`, `NotYours`, `Final` for a commit, `Needed` with the least step that depends on it. O(1); nothing
+    /// changes.
     pub(crate) fn free_step(&self, role: Role, id: StepId) -> Result<Key, Refusal>
         ensures own { OnOk result (owner_fault role
             (step_of (steps (lists_of self.now).keyed_steps) id) ≡ None) }
@@ -83,8 +83,8 @@ impl Configuration {
         }
     }
 
-    /// Removes a step that is the last of its role and, if it is a send or a choice, isn't received, and tells its
-    /// number. The step's role stands again where it stood before the step.
+    /// Removes a step that is the last of its role and, if it is a send or a choice, isn't received, moves its role
+    /// back to the node from before it, and returns its number. It does not allocate, and can't fail.
     pub(crate) fn remove(&mut self, key: Key) -> StepId
         requires can { CanGo (lists_of self.old).keyed_steps key }
         requires role { IfSome (keyed_at key (lists_of self.old).keyed_steps)
@@ -102,8 +102,9 @@ impl Configuration {
 }
 
 impl Session {
-    /// Undoes the role's own step of that number, which is no commit and on which no other step depends, or says
-    /// why not. It does not allocate, and the number isn't given out again. A refusal changes nothing.
+    /// Removes the role's own step of that number. The refusal is the first that applies: `NoStep`, `NotYours`, `Final`
+    /// for a commit, `Needed` with the least step that depends on it; it changes nothing. It does not allocate, and the
+    /// number isn't given out again.
     pub fn undo(&mut self, role: Role, id: StepId) -> Result<(), Refusal>
         requires { role < length self.old.types }
         ensures answer { undo_answer id result ≡ (machine.undo self.old.state role id).0 }
@@ -119,7 +120,7 @@ impl Session {
         Ok(())
     }
 
-    /// Undoes a step as `undo` does, and tells its number.
+    /// `undo` with the number as a list, the form in which all changes are answered. It does not allocate.
     #[inline(always)]
     pub(crate) fn attempt_undo(&mut self, role: Role, id: StepId) -> Result<StepIds, Refusal>
         requires { role < length self.old.types }

@@ -13,8 +13,8 @@ use mps_base::{Name, Role, StepId};
 use mps_command::{Command, Forward, Refusal};
 
 impl Session {
-    /// Why the command of the role would be refused, apart from lack of memory or numbers. A question is never refused.
-    /// It does not allocate. It chooses steps on the way, and none is chosen when it returns.
+    /// Why the role's command would be refused, lack of memory or numbers aside; `Ok` for a question. The session is as
+    /// before when it returns; it is borrowed exclusively, since steps are chosen on the way. It does not allocate.
     pub fn would(&mut self, role: Role, command: &Command) -> Result<(), Refusal>
         requires { role < length self.old.types }
         // In a session of one protocol no answer is Mismatch.
@@ -33,7 +33,8 @@ impl Session {
         }
     }
 
-    // Why the step would be refused, lack of memory or numbers aside.
+    // `would` for a step: the violation of the role's type, if there is one. A step is refused for nothing else but
+    // lack of numbers or memory.
     fn would_forward(&self, role: Role, step: &Forward) -> Result<(), Refusal>
         requires { role < length self.now.types }
         ensures { result_err result ≡ refusal_in
@@ -47,7 +48,7 @@ impl Session {
         }
     }
 
-    // Why the undo of the step of that number would be refused. An undo needs no memory, so nothing else keeps it back.
+    // `would` for an undo: all of its refusals, since an undo needs no memory.
     fn would_undo(&self, role: Role, id: StepId) -> Result<(), Refusal>
         requires { role < length self.now.types }
         ensures { result_err result ≡ refusal_in
@@ -57,7 +58,7 @@ impl Session {
         Ok(())
     }
 
-    // Why the rollback of the step of that number would be refused, lack of memory aside.
+    // `would` for a rollback: `NoStep`, `NotYours` or `Final`, in that order.
     fn would_rollback(&mut self, role: Role, id: StepId) -> Result<(), Refusal>
         requires { role < length self.old.types }
         ensures fault { result_err result ≡ refusal_in
@@ -68,7 +69,7 @@ impl Session {
         self.configuration.unless_final(id)
     }
 
-    // Why the return to the last mark of the name would be refused, lack of memory aside.
+    // `would` for a return to the last mark of the name: `NoMark` or `Final`, in that order.
     fn would_back(&mut self, role: Role, name: &Name) -> Result<(), Refusal>
         requires { role < length self.old.types }
         ensures fault { result_err result ≡ refusal_in

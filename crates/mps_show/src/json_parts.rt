@@ -13,7 +13,7 @@ use serde_json::{Value as Json, json};
 use std::alloc::{AllocError, Global};
 use std::str;
 
-// Makes a JSON string of bytes below 128. They are UTF-8, so only memory may be lacking.
+// Makes a JSON string of bytes below 128, which are UTF-8 as they are. It fails only when out of memory.
 fn text(alloc: Global, bytes: &[u8]) -> Result<Json, AllocError>
     requires { IsAscii bytes.now }
     ensures { IfOk result (λ v. view v ≡ string bytes.now) }
@@ -24,14 +24,14 @@ fn text(alloc: Global, bytes: &[u8]) -> Result<Json, AllocError>
     }
 }
 
-// Makes a JSON string of a name.
+// Makes a JSON string of a name, whose bytes are ASCII, as `text` asks. It fails only when out of memory.
 fn name(alloc: Global, name: &Name) -> Result<Json, AllocError>
     ensures { IfOk result (λ v. view v ≡ string name.now) }
 {
     text(alloc, name.as_bytes())
 }
 
-/// Makes a JSON string of the name of a role.
+/// Makes a JSON string of the name of a role, which has to be one of `names`. It fails only when out of memory.
 pub(crate) fn role(alloc: Global, names: &Roles, role: Role) -> Result<Json, AllocError>
     requires { role < length names.now }
     ensures { IfOk result (λ v. view v ≡ role_name names.now role) }
@@ -39,7 +39,8 @@ pub(crate) fn role(alloc: Global, names: &Roles, role: Role) -> Result<Json, All
     name(alloc, &names.name(role))
 }
 
-// Makes a JSON value of a session's value: a number, `true` or `false`, or a string of a text's content.
+// Makes a JSON value of a session's value: a number, `true` or `false`, or a string of a text's content. It fails only
+// when out of memory.
 fn value(alloc: Global, value: &Value) -> Result<Json, AllocError>
     ensures { IfOk result (λ v. view v ≡ value_shown value.now) }
 {
@@ -50,8 +51,8 @@ fn value(alloc: Global, value: &Value) -> Result<Json, AllocError>
     }
 }
 
-// Makes a JSON value of a message as it stands in a step: a label is a string, since the step's word tells it from a
-// text.
+// Makes a JSON value of a message in a step: a label is a plain string, since the step's word, as `choose`, tells it
+// from a text. It fails only when out of memory.
 fn moved(alloc: Global, message: &Message) -> Result<Json, AllocError>
     ensures { IfOk result (λ v. view v ≡ moved_shown message.now) }
 {
@@ -61,7 +62,8 @@ fn moved(alloc: Global, message: &Message) -> Result<Json, AllocError>
     }
 }
 
-/// Makes a JSON value of a message as it stands in a queue: a label is an object, which tells it from a text.
+/// Makes a JSON value of a message in a queue: a label is an object, `{"label": name}`, since nothing else tells it
+/// from a text. It fails only when out of memory.
 pub(crate) fn waiting(alloc: Global, message: &Message) -> Result<Json, AllocError>
     ensures { IfOk result (λ v. view v ≡ waiting_shown message.now) }
 {
@@ -74,7 +76,7 @@ pub(crate) fn waiting(alloc: Global, message: &Message) -> Result<Json, AllocErr
     }
 }
 
-/// Makes a JSON array of a slot and its value.
+/// Makes the JSON array of a slot and its value: `[slot, value]`. It fails only when out of memory.
 pub(crate) fn binding(alloc: Global, slot: &Name, kept: &Value) -> Result<Json, AllocError>
     ensures { IfOk result (λ v. view v ≡ binding_shown (slot.now, kept.now)) }
 {
@@ -84,7 +86,8 @@ pub(crate) fn binding(alloc: Global, slot: &Name, kept: &Value) -> Result<Json, 
     Ok(Json::Array(parts))
 }
 
-/// Makes a JSON array of a step, with the message that it gave or took.
+/// Makes the JSON array of a step: number, role, word and arguments, and at the end the message that it gave or took.
+/// It fails only when out of memory.
 pub(crate) fn step(
     alloc: Global,
     names: &Roles,
@@ -101,7 +104,8 @@ pub(crate) fn step(
     Ok(Json::Array(parts))
 }
 
-// Adds to a step's array what the act is, and what it gave or took.
+// Appends to a step's array the act's word, its arguments and its message. When out of memory some may be appended; the
+// array is dropped then.
 fn push_act(
     alloc: Global,
     names: &Roles,
@@ -121,7 +125,8 @@ fn push_act(
     }
 }
 
-// Adds to a step's array a send or a choice: its word, the peer, and what it gave.
+// Appends to a step's array `send` or `choose`, the peer and the message. When out of memory some may be appended; the
+// array is dropped then.
 fn push_out(
     alloc: Global,
     names: &Roles,
@@ -143,7 +148,8 @@ fn push_out(
     Ok(())
 }
 
-// Adds to a step's array a receipt or a pick: its word, the peer, the slot of a receipt, and what it took.
+// Appends to a step's array `recv`, the peer, the slot and the message, or `pick`, the peer and the label. When out of
+// memory some may be appended; the array is dropped then.
 fn push_in(
     alloc: Global,
     names: &Roles,
@@ -170,7 +176,8 @@ fn push_in(
     push_taken(alloc, moved, parts)
 }
 
-// Adds to a step's array the message that was taken, if there is one.
+// Appends to a step's array the message that was taken, if there is one; a surviving receipt always has one. It fails
+// only when out of memory.
 fn push_taken(
     alloc: Global,
     taken: Option<&Message>,
@@ -185,7 +192,8 @@ fn push_taken(
     Ok(())
 }
 
-// Adds to a step's array a mark: its word and its name.
+// Appends to a step's array `mark` and the mark's name. When out of memory some may be appended; the array is dropped
+// then.
 fn push_mark(alloc: Global, mark: &Name, parts: &mut Vec<Json>) -> Result<(), AllocError>
     ensures { OnOk result (map view parts.new.items
         ≡ map view parts.old.items ++ string (codes "mark") ∷ string mark.now ∷ []) }
@@ -195,7 +203,7 @@ fn push_mark(alloc: Global, mark: &Name, parts: &mut Vec<Json>) -> Result<(), Al
     Ok(())
 }
 
-// Adds to a step's array a commit, which is its word alone.
+// Appends to a step's array the word `commit`, which has no arguments. It fails only when out of memory.
 fn push_commit(alloc: Global, parts: &mut Vec<Json>) -> Result<(), AllocError>
     ensures { OnOk result (map view parts.new.items
         ≡ map view parts.old.items ++ string (codes "commit") ∷ []) }

@@ -16,8 +16,8 @@ use mps_session::Session;
 use serde_json::{Value as Json, json};
 use std::alloc::{AllocError, Global};
 
-/// What the session shows, as a JSON value: its history, its queues, and each role. The names are those of its roles.
-/// Where memory runs out, what was made is dropped.
+/// The state of the session as a JSON value: an object of its history, its queues and its roles, the same as
+/// `write_show` writes. O(roles * steps). It fails only when out of memory; what was made is dropped then.
 pub fn show(alloc: Global, names: &Roles, session: &Session) -> Result<Json, AllocError>
     requires { length names.now ≡ length session.now.types }
     ensures { IfOk result (λ v. view v
@@ -29,7 +29,7 @@ pub fn show(alloc: Global, names: &Roles, session: &Session) -> Result<Json, All
     json!(in alloc; {"history": history, "queues": queues, "roles": roles})
 }
 
-// Makes a JSON array of the surviving steps, each with what it gave or took.
+// Makes a JSON array of the surviving steps in order, each with its message. It fails only when out of memory.
 fn history(alloc: Global, names: &Roles, session: &Session) -> Result<Json, AllocError>
     requires { length names.now ≡ length session.now.types }
     ensures { IfOk result (λ v. view v ≡ row (map (step_shown names.now) (moves_of session.now))) }
@@ -41,7 +41,7 @@ fn history(alloc: Global, names: &Roles, session: &Session) -> Result<Json, Allo
     Ok(Json::Array(rows))
 }
 
-// Makes a JSON array of the queues in which something waits, by sender and then by receiver.
+// Makes a JSON array of the queues that aren't empty, by sender and then by receiver. It fails only when out of memory.
 fn queues(alloc: Global, names: &Roles, session: &Session) -> Result<Json, AllocError>
     requires { length names.now ≡ length session.now.types }
     ensures { IfOk result (λ v. view v
@@ -56,7 +56,8 @@ fn queues(alloc: Global, names: &Roles, session: &Session) -> Result<Json, Alloc
     Ok(Json::Array(rows))
 }
 
-// Adds the queues from one role in which something waits, by receiver.
+// Appends the queues from one role that aren't empty, by receiver. When out of memory some may be appended; the array
+// is dropped then.
 fn push_queues(
     alloc: Global,
     names: &Roles,
@@ -77,7 +78,8 @@ fn push_queues(
     Ok(())
 }
 
-// Adds the queue from one role to another, as an array of both names and the messages, where something waits in it.
+// Appends the queue from one role to another as `[from, to, messages]`, unless it is empty. It fails only when out of
+// memory, and appends nothing then.
 fn push_queue(
     alloc: Global,
     names: &Roles,
@@ -104,7 +106,8 @@ fn push_queue(
     Ok(())
 }
 
-// Makes JSON values of the messages that wait from one role to another, the first message first.
+// Makes JSON values of the messages that wait from one role to another, the oldest first. It fails only when out of
+// memory.
 fn messages(alloc: Global, session: &Session, from: Role, to: Role) -> Result<Vec<Json>, AllocError>
     ensures { IfOk result (λ all. map view all.items
         ≡ map waiting_shown ((session_view session.now).queue from to)) }
@@ -116,7 +119,7 @@ fn messages(alloc: Global, session: &Session, from: Role, to: Role) -> Result<Ve
     Ok(all)
 }
 
-// Makes a JSON array of the roles, in order.
+// Makes a JSON array of the roles, in their order in the session. It fails only when out of memory.
 fn roles(alloc: Global, names: &Roles, session: &Session) -> Result<Json, AllocError>
     requires { length names.now ≡ length session.now.types }
     ensures { IfOk result (λ v. view v
@@ -131,7 +134,8 @@ fn roles(alloc: Global, names: &Roles, session: &Session) -> Result<Json, AllocE
     Ok(Json::Array(rows))
 }
 
-// Makes a JSON object of a role: what it may do next, what it did, its name, and what it keeps.
+// Makes a JSON object of a role: what its type allows next, the numbers of its steps, its name, and its slots. It fails
+// only when out of memory.
 fn participant(
     alloc: Global,
     names: &Roles,
@@ -151,7 +155,8 @@ fn participant(
     json!(in alloc; {"expects": expects, "past": past, "role": name, "store": store})
 }
 
-// Makes a JSON string of what the role may do next. The words are ASCII, so only memory may be lacking.
+// Makes a JSON string of what the role's type allows next, in the words of `put_head`. These are ASCII, so out of
+// memory is the only error.
 fn expects(alloc: Global, names: &Roles, session: &Session, role: Role) -> Result<Json, AllocError>
     requires count { length names.now ≡ length session.now.types }
     requires role { role < length session.now.types }
@@ -166,7 +171,8 @@ fn expects(alloc: Global, names: &Roles, session: &Session, role: Role) -> Resul
     }
 }
 
-// Makes a JSON array of the numbers of the role's surviving steps. It walks over the steps of all roles.
+// Makes a JSON array of the numbers of the role's surviving steps. O(steps of all roles). It fails only when out of
+// memory.
 fn past(alloc: Global, session: &Session, role: Role) -> Result<Json, AllocError>
     ensures { IfOk result (λ v. view v
         ≡ row (map number_shown (numbers (steps_of role session.now.state.history)))) }
@@ -178,7 +184,7 @@ fn past(alloc: Global, session: &Session, role: Role) -> Result<Json, AllocError
     Ok(Json::Array(all))
 }
 
-// Adds the number of the step, if it is one of the role.
+// Appends the number of the step, if it is one of the role. It fails only when out of memory, and appends nothing then.
 fn push_own(role: Role, step: &Step, all: &mut Vec<Json>) -> Result<(), AllocError>
     ensures { OnOk result (map view all.new.items ≡ map view all.old.items ++ own_number role step.now) }
 {
@@ -188,7 +194,8 @@ fn push_own(role: Role, step: &Step, all: &mut Vec<Json>) -> Result<(), AllocErr
     Ok(all.push(Json::from(step.id.number()))?)
 }
 
-// Makes a JSON array of the slots of the role, each with its value, in the order in which they were first bound.
+// Makes a JSON array of the role's slots, each with its value, in the order in which they were first bound. It fails
+// only when out of memory.
 fn store(alloc: Global, session: &Session, role: Role) -> Result<Json, AllocError>
     requires { role < length session.now.types }
     ensures { IfOk result (λ v. view v

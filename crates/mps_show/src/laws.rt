@@ -9,8 +9,8 @@ ghost use Rattle.serde_json.specs.View.{view};
 ghost use Rattle.serde_json.specs.Written.{has_float, compact_text};
 ghost use Rattle.serde_json.specs.declared.value.Value.{Value};
 
-/// A JSON value that stands for what a session shows has one text, that of `show_text`: no number in it is a float, so
-/// what `serde_json` writes of it is known to the byte.
+/// A law: a JSON value that stands for a session's state has one text, that of `show_text`. No number in it is a float,
+/// so what `serde_json` writes of it is known to the byte.
 pub fn a_shown_value_has_one_text()
     ensures no_float { (names : List (List ℕ)) (types : List LocalType) (h : List Step)
         → has_float (shown names types h) ≡ false }
@@ -18,7 +18,8 @@ pub fn a_shown_value_has_one_text()
         → view v ≡ shown names types h → compact_text (view v) ≡ show_text names types h }
 {}
 
-/// A shown text begins with `{`, and where each text in the data stands on one line, the text of the data does.
+/// A law: the text of a session's state begins with `{` and, where each text in it stands on one line, stands on one
+/// line. So it can answer a line.
 pub fn a_shown_text_is_one_line()
     ensures begins { (names : List (List ℕ)) (types : List LocalType) (h : List Step)
         → slice_get (show_text names types h) 0 ≡ Some 123 }

@@ -12,7 +12,8 @@ use mps_base::{Name, Role, Roles, Sort};
 use mps_session::{Expect, Session};
 use std::alloc::AllocError;
 
-/// Writes what the role may do next, as words at the end of `out`. After an error a part may stand there.
+/// Appends what the role's type allows next, in words: `end`, or an act's word, the peer, and a sort or labels. When
+/// out of memory a part may stand in `out`; the caller drops it.
 pub(crate) fn put_head(
     out: &mut Vec<u8>,
     names: &Roles,
@@ -37,7 +38,7 @@ pub(crate) fn put_head(
     }
 }
 
-// Writes `end`: there is nothing more to do.
+// Appends `end`: the role's type has ended. It fails only when out of memory, and appends nothing then.
 fn put_end(out: &mut Vec<u8>) -> Result<(), AllocError>
     ensures text { OnOk result (out.new.items ≡ out.old.items ++ codes "end") }
     ensures plain { OnOk result (AllByRecursion IsPlainByte (codes "end")) }
@@ -45,8 +46,8 @@ fn put_end(out: &mut Vec<u8>) -> Result<(), AllocError>
     out.extend_from_slice(b"end")
 }
 
-// Writes an action of a value: its word, the peer and the sort, with a space between two. After an error a part may
-// stand in `out`.
+// Appends an act of a value: its word, the peer and the sort, with a space between two. When out of memory a part may
+// stand in `out`; the caller drops it.
 fn put_action(out: &mut Vec<u8>, word: &[u8], peer: &Name, sort: Sort) -> Result<(), AllocError>
     requires { AllByRecursion IsPlainByte word.now }
     ensures text { OnOk result (out.new.items ≡ out.old.items ++ spaced (word.now ∷ peer.now ∷ sort_word sort ∷ [])) }
@@ -57,8 +58,8 @@ fn put_action(out: &mut Vec<u8>, word: &[u8], peer: &Name, sort: Sort) -> Result
     put_behind(out, sort.word())
 }
 
-// Writes a choice: its word, the peer and the labels, with a space between two. After an error a part may stand in
-// `out`.
+// Appends a choice: its word, the peer and the labels, at most 16, with a space between two. When out of memory a part
+// may stand in `out`; the caller drops it.
 fn put_choice(
     out: &mut Vec<u8>,
     word: &[u8],
@@ -77,7 +78,7 @@ fn put_choice(
     Ok(())
 }
 
-// Writes a space and a word. After an error the space may stand in `out` alone.
+// Appends a space and a word. When out of memory the space may stand in `out` alone; the caller drops it.
 fn put_behind(out: &mut Vec<u8>, word: &[u8]) -> Result<(), AllocError>
     ensures { OnOk result (out.new.items ≡ out.old.items ++ 32 ∷ word.now) }
 {

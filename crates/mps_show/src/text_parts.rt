@@ -17,8 +17,8 @@ use itoa::Buffer;
 use mps_base::{Act, Message, Name, Role, Roles, Step, StepId, Value};
 use std::alloc::AllocError;
 
-// Writes a JSON string of plain bytes, which need no escapes: none is a quote or a backslash. After an error nothing is
-// written.
+// Appends a JSON string of bytes that need no escapes: printable ASCII without quote and backslash. Out of memory is
+// the only error, and appends nothing.
 #[inline(always)]
 fn put_string(out: &mut Vec<u8>, bytes: &[u8]) -> Result<(), AllocError>
     requires { AllByRecursion IsPlainByte bytes.now }
@@ -33,7 +33,8 @@ fn put_string(out: &mut Vec<u8>, bytes: &[u8]) -> Result<(), AllocError>
     Ok(())
 }
 
-/// Writes a comma, where something stands before it in the array.
+/// Appends a comma where `later` says that something stands before it in the array. It fails only when out of memory,
+/// and appends nothing then.
 pub(crate) fn put_comma(out: &mut Vec<u8>, later: bool) -> Result<(), AllocError>
     ensures { OnOk result (out.new.items ≡ out.old.items ++ comma_if later) }
 {
@@ -43,7 +44,8 @@ pub(crate) fn put_comma(out: &mut Vec<u8>, later: bool) -> Result<(), AllocError
     Ok(())
 }
 
-// Writes a name as a JSON string.
+// Appends a name as a JSON string: `put_string` with the fact that a name's bytes need no escapes. It fails only when
+// out of memory, and appends nothing then.
 #[inline(always)]
 fn put_name(out: &mut Vec<u8>, name: &Name) -> Result<(), AllocError>
     ensures text { OnOk result (out.new.items ≡ out.old.items ++ compact_text (string name.now)) }
@@ -52,7 +54,8 @@ fn put_name(out: &mut Vec<u8>, name: &Name) -> Result<(), AllocError>
     put_string(out, name.as_bytes())
 }
 
-/// Writes the name of a role as a JSON string.
+/// Appends the name of a role, which has to be one of `names`, as a JSON string. It fails only when out of memory, and
+/// appends nothing then.
 #[inline(always)]
 pub(crate) fn put_role(out: &mut Vec<u8>, names: &Roles, role: Role) -> Result<(), AllocError>
     requires { role < length names.now }
@@ -62,7 +65,8 @@ pub(crate) fn put_role(out: &mut Vec<u8>, names: &Roles, role: Role) -> Result<(
     put_name(out, &names.name(role))
 }
 
-/// Writes the number of a step as a JSON number.
+/// Appends the number of a step as a JSON number, in decimal. It fails only when out of memory, and appends nothing
+/// then.
 #[inline(always)]
 pub(crate) fn put_number(out: &mut Vec<u8>, id: StepId) -> Result<(), AllocError>
     ensures { OnOk result (out.new.items ≡ out.old.items ++ compact_text (number_shown id)) }
@@ -71,7 +75,8 @@ pub(crate) fn put_number(out: &mut Vec<u8>, id: StepId) -> Result<(), AllocError
     out.extend_from_slice(digits.format(id.number()).as_bytes())
 }
 
-// Writes an integer as a JSON number.
+// Appends an integer as a JSON number, in decimal, with a `-` if it is below 0. It fails only when out of memory, and
+// appends nothing then.
 fn put_int(out: &mut Vec<u8>, n: i64) -> Result<(), AllocError>
     ensures { OnOk result (out.new.items ≡ out.old.items ++ compact_text (number (of_integer n))) }
 {
@@ -79,8 +84,8 @@ fn put_int(out: &mut Vec<u8>, n: i64) -> Result<(), AllocError>
     out.extend_from_slice(digits.format(n).as_bytes())
 }
 
-// Writes a value as JSON: a number, `true` or `false`, or a string, where a text's content needs no escapes. No clause
-// says what `out` has after an error.
+// Appends a value as JSON: a number, `true` or `false`, or a string, since a text's content needs no escapes. When out
+// of memory no clause says what `out` has; the caller drops it.
 #[inline(always)]
 fn put_value(out: &mut Vec<u8>, value: &Value) -> Result<(), AllocError>
     ensures text { OnOk result (out.new.items ≡ out.old.items ++ compact_text (value_shown value.now)) }
@@ -94,8 +99,8 @@ fn put_value(out: &mut Vec<u8>, value: &Value) -> Result<(), AllocError>
     }
 }
 
-// Writes a message as JSON as it stands in a step: a label is a string, since the step's word tells it from a text. No
-// clause says what `out` has after an error.
+// Appends a message of a step as JSON: a label is a plain string, since the step's word tells it from a text. When out
+// of memory no clause says what `out` has; the caller drops it.
 fn put_moved(out: &mut Vec<u8>, message: &Message) -> Result<(), AllocError>
     ensures text { OnOk result (out.new.items ≡ out.old.items ++ compact_text (moved_shown message.now)) }
     ensures plain { OnOk result (IsPlain (moved_shown message.now)) }
@@ -106,8 +111,8 @@ fn put_moved(out: &mut Vec<u8>, message: &Message) -> Result<(), AllocError>
     }
 }
 
-/// Writes a message as JSON as it stands in a queue: a label is an object, which tells it from a text. After an error a
-/// part may stand in `out`.
+/// Appends a message of a queue as JSON: a label is an object, since nothing else tells it from a text. When out of
+/// memory a part may stand in `out`; the caller drops it.
 pub(crate) fn put_waiting(out: &mut Vec<u8>, message: &Message) -> Result<(), AllocError>
     ensures text { OnOk result (out.new.items ≡ out.old.items ++ compact_text (waiting_shown message.now)) }
     ensures plain { OnOk result (IsPlain (waiting_shown message.now)) }
@@ -118,7 +123,8 @@ pub(crate) fn put_waiting(out: &mut Vec<u8>, message: &Message) -> Result<(), Al
     }
 }
 
-// Writes a label of a queue as a JSON object. After an error a part may stand in `out`.
+// Appends a label of a queue as a JSON object, `{"label":name}`. When out of memory a part may stand in `out`; the
+// caller drops it.
 fn put_label(out: &mut Vec<u8>, label: &Name) -> Result<(), AllocError>
     ensures text { OnOk result (out.new.items ≡ out.old.items ++ compact_text (waiting_shown (Label label.now))) }
     ensures plain { OnOk result (IsPlain (waiting_shown (Label label.now))) }
@@ -128,7 +134,8 @@ fn put_label(out: &mut Vec<u8>, label: &Name) -> Result<(), AllocError>
     Ok(out.push(b'}')?)
 }
 
-/// Writes a step as a JSON array, with the message that it gave or took. After an error a part may stand in `out`.
+/// Appends a step as a JSON array: number, role, word and arguments, and at the end the message that it gave or took.
+/// When out of memory a part may stand in `out`; the caller drops it.
 pub(crate) fn put_step(
     out: &mut Vec<u8>,
     names: &Roles,
@@ -147,8 +154,8 @@ pub(crate) fn put_step(
     put_act(out, names, &step.act, moved)
 }
 
-// Writes the rest of a step's array after its role: what the act is, what it moved, and the bracket. After an error a
-// part may stand in `out`.
+// Appends the rest of a step's array after its role: the act's word, its arguments, its message, and the bracket. When
+// out of memory a part may stand in `out`; the caller drops it.
 fn put_act(
     out: &mut Vec<u8>,
     names: &Roles,
@@ -168,8 +175,8 @@ fn put_act(
     }
 }
 
-// Writes the rest of the array of a send or a choice after its role, with the bracket. After an error a part may stand
-// in `out`.
+// Appends the rest of a step's array for `send` or `choose`: the word, the peer, the message, and the bracket. When out
+// of memory a part may stand in `out`; the caller drops it.
 fn put_out(out: &mut Vec<u8>, names: &Roles, to: Role, message: &Message) -> Result<(), AllocError>
     requires { to < length names.now }
     ensures text { OnOk result (out.new.items
@@ -186,8 +193,8 @@ fn put_out(out: &mut Vec<u8>, names: &Roles, to: Role, message: &Message) -> Res
     Ok(out.push(b']')?)
 }
 
-// Writes the rest of the array of a receipt or a pick after its role, with the bracket. After an error a part may stand
-// in `out`.
+// Appends the rest of a step's array for `recv` (peer, slot, message) or `pick` (peer, label), with the bracket. When
+// out of memory a part may stand in `out`; the caller drops it.
 fn put_in(
     out: &mut Vec<u8>,
     names: &Roles,
@@ -216,8 +223,8 @@ fn put_in(
     put_taken(out, moved)
 }
 
-// Writes the message that was taken, if there is one, and the bracket that ends the step. After an error a part may
-// stand in `out`.
+// Appends the message that was taken, if there is one, and the bracket that ends the step's array. When out of memory a
+// part may stand in `out`; the caller drops it.
 fn put_taken(out: &mut Vec<u8>, moved: Option<&Message>) -> Result<(), AllocError>
     ensures text { OnOk result (out.new.items
         ≡ out.old.items ++ items_text true (items_of (taken_shown (option_copied moved.entry)))) }
@@ -230,7 +237,8 @@ fn put_taken(out: &mut Vec<u8>, moved: Option<&Message>) -> Result<(), AllocErro
     Ok(out.push(b']')?)
 }
 
-// Writes the rest of the array of a mark after its role, with the bracket. After an error a part may stand in `out`.
+// Appends the rest of a step's array for a mark: the word, its name, and the bracket. When out of memory a part may
+// stand in `out`; the caller drops it.
 fn put_mark(out: &mut Vec<u8>, mark: &Name) -> Result<(), AllocError>
     ensures text { OnOk result (out.new.items
         ≡ out.old.items ++ items_text true (items_of (string (codes "mark") ∷ string mark.now ∷ []))) }
@@ -241,7 +249,8 @@ fn put_mark(out: &mut Vec<u8>, mark: &Name) -> Result<(), AllocError>
     Ok(out.push(b']')?)
 }
 
-// Writes the rest of the array of a commit after its role, with the bracket.
+// Appends the rest of a step's array for a commit: the word and the bracket. It fails only when out of memory, and
+// appends nothing then.
 #[tactic(auto, using(crate::proofs::Texts::words_stand))]
 fn put_commit(out: &mut Vec<u8>) -> Result<(), AllocError>
     ensures text { OnOk result (out.new.items
@@ -251,7 +260,8 @@ fn put_commit(out: &mut Vec<u8>) -> Result<(), AllocError>
     out.extend_from_slice(b",\"commit\"]")
 }
 
-/// Writes a slot with its value as a JSON array. After an error a part may stand in `out`.
+/// Appends a slot and its value as a JSON array, `[slot,value]`. When out of memory a part may stand in `out`; the
+/// caller drops it.
 pub(crate) fn put_binding(out: &mut Vec<u8>, slot: &Name, value: &Value) -> Result<(), AllocError>
     ensures text { OnOk result (out.new.items
         ≡ out.old.items ++ compact_text (binding_shown (slot.now, value.now))) }

@@ -18,8 +18,8 @@ use mps_base::{Message, Role, Roles, Step};
 use mps_session::{Queue, Session};
 use std::alloc::AllocError;
 
-/// Appends what the session shows, as compact JSON: its history, its queues, and each role. Where memory runs out,
-/// nothing is appended.
+/// Appends the state of the session as compact JSON: an object of its history, its queues and its roles. O(roles *
+/// steps). Out of memory is the only error, and leaves `out` unchanged: the text is made in a buffer of its own.
 pub fn write_show(names: &Roles, session: &Session, out: &mut Vec<u8>) -> Result<(), AllocError>
     requires { length names.now ≡ length session.now.types }
     ensures text { OnOk result (out.new.items ≡ out.old.items
@@ -33,7 +33,8 @@ pub fn write_show(names: &Roles, session: &Session, out: &mut Vec<u8>) -> Result
     out.extend_from_slice(&text)
 }
 
-// Writes the whole of what is shown as a JSON object. After an error a part may stand in `out`.
+// Appends the whole state as a JSON object. When out of memory a part may stand in `out`, which is `write_show`'s
+// buffer.
 fn put_state(out: &mut Vec<u8>, names: &Roles, session: &Session) -> Result<(), AllocError>
     requires { length names.now ≡ length session.now.types }
     ensures text { OnOk result (out.new.items ≡ out.old.items
@@ -49,7 +50,8 @@ fn put_state(out: &mut Vec<u8>, names: &Roles, session: &Session) -> Result<(), 
     Ok(out.push(b'}')?)
 }
 
-// Writes the surviving steps as a JSON array, each with what it gave or took. After an error a part may stand in `out`.
+// Appends the surviving steps as a JSON array, in order. When out of memory a part may stand in `out`; the caller drops
+// it.
 fn put_history(out: &mut Vec<u8>, names: &Roles, session: &Session) -> Result<(), AllocError>
     requires { length names.now ≡ length session.now.types }
     ensures text { OnOk result (out.new.items ≡ out.old.items
@@ -66,8 +68,8 @@ fn put_history(out: &mut Vec<u8>, names: &Roles, session: &Session) -> Result<()
     Ok(out.push(b']')?)
 }
 
-// Writes the queues in which something waits as a JSON array, by sender and then by receiver. After an error a part may
-// stand in `out`.
+// Appends the queues that aren't empty as a JSON array, by sender and then by receiver. When out of memory a part may
+// stand in `out`; the caller drops it.
 fn put_queues(out: &mut Vec<u8>, names: &Roles, session: &Session) -> Result<(), AllocError>
     requires { length names.now ≡ length session.now.types }
     ensures text { OnOk result (out.new.items ≡ out.old.items
@@ -85,8 +87,8 @@ fn put_queues(out: &mut Vec<u8>, names: &Roles, session: &Session) -> Result<(),
     Ok(out.push(b']')?)
 }
 
-// Writes the queues from one role in which something waits, by receiver, and tells whether something stands in the
-// array then. After an error a part may stand in `out`.
+// Appends the queues from one role that aren't empty, by receiver. `later` says whether a comma is due; the same is
+// returned for what comes next. When out of memory a part may stand in `out`; the caller drops it.
 fn put_queues_from(
     out: &mut Vec<u8>,
     names: &Roles,
@@ -112,8 +114,8 @@ fn put_queues_from(
     Ok(now)
 }
 
-// Writes the queue from one role to another as a JSON array, where something waits in it, and tells whether something
-// stands in the array of queues then. After an error a part may stand in `out`.
+// Appends the queue from one role to another, unless it is empty. `later` says whether a comma is due; the same is
+// returned for what comes next. When out of memory a part may stand in `out`; the caller drops it.
 fn put_queue(
     out: &mut Vec<u8>,
     names: &Roles,
@@ -141,8 +143,8 @@ fn put_queue(
     Ok(true)
 }
 
-// Writes a queue as a JSON array: both names, and the messages, of which these are the first and the others. After an
-// error a part may stand in `out`.
+// Appends a queue as `[from,to,[messages]]`; the first message comes apart, since the caller took it to see whether
+// there is one. When out of memory a part may stand in `out`; the caller drops it.
 fn put_messages(
     out: &mut Vec<u8>,
     names: &Roles,
@@ -172,7 +174,8 @@ fn put_messages(
     out.extend_from_slice(b"]]")
 }
 
-// Writes the roles as a JSON array, in order. After an error a part may stand in `out`.
+// Appends the roles as a JSON array, in their order in the session. When out of memory a part may stand in `out`; the
+// caller drops it.
 fn put_roles(out: &mut Vec<u8>, names: &Roles, session: &Session) -> Result<(), AllocError>
     requires { length names.now ≡ length session.now.types }
     ensures text { OnOk result (out.new.items ≡ out.old.items
@@ -189,8 +192,8 @@ fn put_roles(out: &mut Vec<u8>, names: &Roles, session: &Session) -> Result<(), 
     Ok(out.push(b']')?)
 }
 
-// Writes a role as a JSON object: what it may do next, what it did, its name, and what it keeps. After an error a part
-// may stand in `out`.
+// Appends a role as a JSON object: what its type allows next, the numbers of its steps, its name, and its slots. When
+// out of memory a part may stand in `out`; the caller drops it.
 fn put_participant(
     out: &mut Vec<u8>,
     names: &Roles,
@@ -216,8 +219,8 @@ fn put_participant(
     Ok(out.push(b'}')?)
 }
 
-// Writes what the role may do next as a JSON string. Its words need no escapes. After an error a part may stand in
-// `out`.
+// Appends what the role's type allows next as a JSON string. Its words need no escapes. When out of memory a part may
+// stand in `out`; the caller drops it.
 fn put_expects(
     out: &mut Vec<u8>,
     names: &Roles,
@@ -236,8 +239,8 @@ fn put_expects(
     Ok(out.push(b'"')?)
 }
 
-// Writes the numbers of the role's surviving steps as a JSON array. It walks over the steps of all roles. After an
-// error a part may stand in `out`.
+// Appends the numbers of the role's surviving steps as a JSON array. O(steps of all roles). When out of memory a part
+// may stand in `out`; the caller drops it.
 fn put_past(out: &mut Vec<u8>, session: &Session, role: Role) -> Result<(), AllocError>
     ensures { OnOk result (out.new.items ≡ out.old.items
         ++ compact_text (row (map number_shown (numbers (steps_of role session.now.state.history))))) }
@@ -250,8 +253,8 @@ fn put_past(out: &mut Vec<u8>, session: &Session, role: Role) -> Result<(), Allo
     Ok(out.push(b']')?)
 }
 
-// Writes the number of the step, if it is one of the role, and tells whether something stands in the array then. After
-// an error a comma may stand in `out` alone.
+// Appends the number of the step, if it is one of the role. `later` says whether a comma is due; the same is returned
+// for what comes next. When out of memory a comma may stand in `out` alone; the caller drops it.
 fn put_own(out: &mut Vec<u8>, role: Role, step: &Step, later: bool) -> Result<bool, AllocError>
     ensures text { OnOk result (out.new.items ≡ out.old.items ++ joined later (own_number role step.now)) }
     ensures behind { IfOk result (λ now. now ≡ behind later (own_number role step.now)) }
@@ -264,8 +267,8 @@ fn put_own(out: &mut Vec<u8>, role: Role, step: &Step, later: bool) -> Result<bo
     Ok(true)
 }
 
-// Writes the slots of the role as a JSON array, each with its value, in the order in which they were first bound. After
-// an error a part may stand in `out`.
+// Appends the role's slots as a JSON array, each with its value, in the order in which they were first bound. When out
+// of memory a part may stand in `out`; the caller drops it.
 fn put_store(out: &mut Vec<u8>, session: &Session, role: Role) -> Result<(), AllocError>
     requires { role < length session.now.types }
     ensures text { OnOk result (out.new.items ≡ out.old.items

@@ -16,7 +16,7 @@ use std::alloc::{AllocError, Global};
 use std::marker::Model;
 use std::mem;
 
-// How many names are looked through one by one.
+// Up to how many names a store is searched one by one: that takes less than to hash the name.
 const FEW: usize = 8;
 
 /// Names and the keys to which they are bound, in the order in which the names were first bound.
@@ -34,7 +34,7 @@ impl Model for Store {
 }
 
 impl Store {
-    /// A store in which no name is bound. It does not allocate.
+    /// A store in which no name is bound. It does not allocate; the allocator is kept for `bind`.
     pub(crate) fn new(alloc: Global) -> Store
         ensures { result ≡ [] }
     {
@@ -43,14 +43,15 @@ impl Store {
         }
     }
 
-    /// The key to which the name is bound, if it is.
+    /// The key to which the name is bound, or `None`. O(1), by a hash of the name.
     pub(crate) fn get(&self, name: &Name) -> Option<Key>
         ensures { result ≡ value_in name.now self.now }
     {
         self.keys.get(name).copied()
     }
 
-    /// The names and their keys, in the order in which the names were first bound.
+    /// An iterator over the names and their keys, in the order in which the names were first bound. It does not
+    /// allocate.
     pub(crate) fn entries(&self) -> Iter<'_, Name, Key>
         ensures rest { result ≡ self.now }
         ensures runs { ShowsInOrder (deref_pair {K = List ℕ} {X = ℕ}) }
@@ -58,22 +59,22 @@ impl Store {
         self.keys.iter()
     }
 
-    /// How many names are bound.
+    /// How many names are bound now. O(1).
     pub(crate) fn len(&self) -> usize
         ensures { result ≡ length self.now }
     {
         self.keys.len()
     }
 
-    /// The name that was first bound as the k-th, from 0, and its key, if so many are bound.
+    /// The name that was first bound as the k-th, from 0, and its key, or `None` where fewer are bound. O(1).
     pub(crate) fn nth(&self, k: usize) -> Option<(&Name, &Key)>
         ensures { option_map (deref_pair {K = List ℕ} {X = ℕ}) result ≡ slice_get self.now k }
     {
         self.keys.get_index(k)
     }
 
-    /// Binds the name to the key, and tells the key to which it was bound before, if it was. Only a new name needs
-    /// memory.
+    /// Binds the name to the key, and returns the key to which it was bound before, if it was. A new name comes last
+    /// and needs memory: out of memory is the only error, and changes nothing. A known name keeps its place.
     pub(crate) fn bind(&mut self, name: &Name, key: Key) -> Result<Option<Key>, AllocError>
         ensures replaced { IfOk result (λ older. older ≡ value_in name.now self.old) }
         ensures bound { OnOk result (self.new ≡ bound name.now key self.old) }
@@ -86,7 +87,8 @@ impl Store {
         Ok(self.keys.insert(*name, key)?)
     }
 
-    // The place of the name, where it is known and the store has at most 8 names: it is found without its hash.
+    // The place of a known name in a store of at most 8 names, found without a hash; `None` for a larger store too, so
+    // it doesn't say that the name is unknown.
     fn place_among_few(&self, name: &Name) -> Option<usize>
         ensures { IfSome result (λ place. position (bytes_eq name.now) (keys_of self.now) ≡ Some place) }
     {
@@ -97,7 +99,8 @@ impl Store {
         place_in(known.as_slice(), name)
     }
 
-    // Binds the name of that place to the key, and tells the key to which it was bound.
+    // Binds the name at that place to the key, and returns the old key. It does not allocate; `None`, and no change,
+    // where there is no such place.
     fn rebind(&mut self, place: usize, key: Key) -> Option<Key>
         ensures older { result ≡ slice_get (values_of self.old) place }
         ensures rebound { self.new ≡ set_value_at self.old place key }
@@ -106,8 +109,8 @@ impl Store {
         Some(mem::replace(bound, key))
     }
 
-    /// Undoes the binding of a name: it is bound to the older key, in its place, or removed where there is none. Where
-    /// the name isn't bound, nothing changes.
+    /// Undoes `bind`: the name is bound to the older key, in its place, or removed where there is none. Where the name
+    /// isn't bound, nothing changes. It does not allocate; a removal takes O(names), to keep their order.
     pub(crate) fn unbind(&mut self, name: &Name, older: Option<Key>)
         ensures { self.new ≡ unbound name.now older self.old }
     {
@@ -125,7 +128,8 @@ impl Store {
     }
 }
 
-// The first place at which the name stands, if it does.
+// The first place at which the name stands, or `None`: a search in order, for few names. Apart, since its contract is
+// by `position`.
 fn place_in(names: &[Name], name: &Name) -> Option<usize>
     ensures { result ≡ position (bytes_eq name.now) names.now }
 {

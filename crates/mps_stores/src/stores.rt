@@ -35,7 +35,8 @@ impl Model for Stores {
 }
 
 impl Stores {
-    /// Stores in which no name is bound. The allocator is kept for later growth.
+    /// Stores of 8 roles in which no name is bound. It allocates the list of the eight; out of memory is the only
+    /// error. The allocator is kept for later growth.
     pub fn new(alloc: Global) -> Result<Stores, AllocError>
         ensures empty { IfOk result (λ stores. stores ≡ replicate 8 []) }
         ensures stores { IfOk result (λ stores. (naming : Naming) → AreStores naming [] stores) }
@@ -47,7 +48,7 @@ impl Stores {
         Ok(Stores { stores })
     }
 
-    /// The key of the step to which the role's name is bound, if it is.
+    /// The key of the step to which the role's name is bound, or `None`. O(1), in the role's own store.
     pub fn get(&self, role: Role, name: &Name) -> Option<Key>
         requires { role < 8 }
         ensures { result ≡ value_in name.now (store_at self.now role) }
@@ -55,7 +56,8 @@ impl Stores {
         self.stores[role.index()].get(name)
     }
 
-    /// The role's names, in the order in which they were first bound, each with the key of its step.
+    /// An iterator over the role's names, in the order in which they were first bound, each with the key of its step.
+    /// It borrows the role's own store, and does not allocate.
     pub fn entries(&self, role: Role) -> Iter<'_, Name, Key>
         requires { role < 8 }
         ensures rest { result ≡ store_at self.now role }
@@ -64,7 +66,7 @@ impl Stores {
         self.stores[role.index()].entries()
     }
 
-    /// How many names of the role are bound.
+    /// How many names of the role are bound now. O(1), in the role's own store.
     pub fn count(&self, role: Role) -> usize
         requires { role < 8 }
         ensures { result ≡ length (store_at self.now role) }
@@ -72,7 +74,8 @@ impl Stores {
         self.stores[role.index()].len()
     }
 
-    /// The role's name that was first bound as the k-th, from 0, and the key of its step, if so many are bound.
+    /// The role's name that was first bound as the k-th, from 0, and the key of its step, or `None` where fewer are
+    /// bound. O(1), in the role's own store.
     pub fn nth(&self, role: Role, k: usize) -> Option<(&Name, &Key)>
         requires { role < 8 }
         ensures { option_map (deref_pair {K = List ℕ} {X = ℕ}) result
@@ -81,8 +84,8 @@ impl Stores {
         self.stores[role.index()].nth(k)
     }
 
-    /// Binds the role's name to a step, and tells to which one it was bound: what the new step has to keep as
-    /// `before.bound`. A known name keeps its place, and does not allocate.
+    /// Binds the role's name to a step, and returns the step to which it was bound, for `unbind` to restore. A known
+    /// name keeps its place and does not allocate. Out of memory is the only error, and changes nothing.
     #[inline(always)]
     pub fn bind(&mut self, role: Role, name: &Name, key: Key) -> Result<Option<Key>, AllocError>
         requires { role < 8 }
@@ -99,8 +102,8 @@ impl Stores {
         store.bind(name, key)
     }
 
-    /// Undoes the binding of a name: it is bound to the older step, in its place, or removed where there is none.
-    /// Where the name isn't bound, nothing changes.
+    /// Undoes `bind`: the name is bound to the older step, in its place, or removed where there is none. Where the name
+    /// isn't bound, nothing changes. It does not allocate.
     pub fn unbind(&mut self, role: Role, name: &Name, older: Option<Key>)
         requires { role < 8 }
         ensures unbound { self.new

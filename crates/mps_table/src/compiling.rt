@@ -16,7 +16,9 @@ use crate::table::Table;
 use mps_local::{Local, LocalFault, first_fault};
 use std::alloc::{AllocError, Global};
 
-/// The table of a local type; or the type's first fault, or `Memory` where it has none. The type may be of any size.
+/// The table of a local type of any size, or the type's first fault; `Memory` only where it has none. It allocates a
+/// row for each action and end, and an entry for each label; after an error nothing is left of them. Nothing goes more
+/// than 257 nodes deep into the type.
 pub fn compile(alloc: Global, tree: &Local) -> Result<Table, LocalFault>
     ensures table { IfOk result (λ table. StandsFor table table.first (plain tree.now)) }
     ensures rows { IfOk result
@@ -42,8 +44,8 @@ pub fn compile(alloc: Global, tree: &Local) -> Result<Table, LocalFault>
     }
 }
 
-// Makes the table of a type of at most 256 nodes, whose variables stand in their `rec`s, and in which no `rec` comes to
-// its variable without an act.
+// Makes the table of a type without faults: at most 256 nodes, closed, each variable guarded. Apart from `compile`, so
+// that it needs these as its premises alone. It fails only when out of memory.
 fn table_of(alloc: Global, tree: &Local) -> Result<Table, AllocError>
     requires few { node_count (plain tree.now) ≤ 256 }
     requires closed { is_closed [] (plain tree.now) ≡ true }

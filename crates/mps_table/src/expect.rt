@@ -19,21 +19,22 @@ impl Model for Node {
 }
 
 impl Node {
-    /// The node at this place; a table may have no such node.
+    /// The node at this place of a table, from 0. Any number is taken: a table has at most 256 nodes, and may have no
+    /// such node.
     pub const fn new(index: u16) -> Node
         ensures { result ≡ index }
     {
         Node(index)
     }
 
-    /// The place of the node as a number, of which `Node::new` makes the node again.
+    /// The place of the node as a number, of which `Node::new` makes the node again: for whoever stores 16 bits.
     pub fn number(self) -> u16
         ensures { result ≡ self }
     {
         self.0
     }
 
-    /// The place of the node in its table.
+    /// The place of the node as an index of its table's rows, below 2^16.
     pub(crate) fn index(self) -> usize
         ensures place { result ≡ self }
         ensures small { result < 2 ^ 16 }

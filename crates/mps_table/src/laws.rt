@@ -6,8 +6,8 @@ ghost use Rattle.mps_local.specs.Actions.{Head, Begins, head, type_left};
 ghost use Rattle.mps_table.specs.Graph.{Graph, IsNode, HasNext};
 ghost use Rattle.mps_table.specs.Standing.{StandsFor};
 
-/// A node that stands for a type is a node of the table, and may be followed wherever something is left of the type.
-/// What a type begins with is its head, so a node shows one head.
+/// A law: a node that stands for a type is a node of the table, and may be followed wherever something is left of the
+/// type. A node shows one head, since a type begins in one way.
 pub fn nodes_lead()
     ensures node { (g : Graph) (node : ℕ) (t : LocalType) → StandsFor g node t → IsNode g node }
     ensures next { (g : Graph) (node : ℕ) (choice : Option ℕ) (t u : LocalType)

@@ -27,8 +27,8 @@ pub(crate) struct Draft {
     pub(crate) targets: Vec<Node>,
 }
 
-// The node of a variable, which is that of the nearest `rec` of it. One without a `rec` would get node 0; no closed
-// type has such a variable.
+// The node of a variable: that of the nearest `rec` of it, as `bound` lists them. One without a `rec` would get node 0;
+// no closed type has such a variable. It does not allocate.
 fn node_of(name: &VarName, bound: &Bound<'_>) -> Node
     ensures { result ≡ places_of bound.now name.now }
 {
@@ -44,8 +44,8 @@ fn node_of(name: &VarName, bound: &Bound<'_>) -> Node
     }
 }
 
-// The node of a type whose rows begin at the place `at`. A variable has no row, and the node of its `rec`; a `rec` has
-// no row of its own either, and the node of its body.
+// The node of a type whose rows begin at the place `at`. A variable has no row, and takes the node of its `rec`; a
+// `rec` has none either, and takes the node of its body. So recursion in the type is a jump back in the table.
 fn start(tree: &Local, bound: &Bound<'_>, at: usize) -> Node
     requires few { at ≤ 256 }
     ensures { result ≡ start (places_of bound.now) at (plain tree.now) }
@@ -58,7 +58,8 @@ fn start(tree: &Local, bound: &Bound<'_>, at: usize) -> Node
     }
 }
 
-// How many rows a type has: one for each action and each end.
+// How many rows a type has: one for each action and each end, none for a `rec` or a variable. So the place where the
+// next branch begins is known before the rows are there.
 #[cycle(size)]
 fn size(tree: &Local) -> usize
     requires few { size (plain tree.now) ≤ 256 }
@@ -74,7 +75,7 @@ fn size(tree: &Local) -> usize
     }
 }
 
-// How many rows the types after the labels have together.
+// `size` for the types of a choice's branches, added up: their rows come one after the other.
 #[cycle(size)]
 fn branch_size(branches: &Branches) -> usize
     requires few { branch_size (plain_branches branches.now) ≤ 256 }
@@ -86,7 +87,8 @@ fn branch_size(branches: &Branches) -> usize
     }
 }
 
-/// Lays a closed type out, its first row at place 0, and says which node the type has.
+/// Lays a closed type out in rows, the first at place 0, and returns the lists with the node of the type. It fails only
+/// when out of memory.
 pub(crate) fn laid_out(alloc: Global, tree: &Local) -> Result<(Draft, Node), AllocError>
     requires rows { size (plain tree.now) ≤ 256 }
     requires labels { length (all_labels (plain tree.now)) ≤ 256 }
@@ -99,7 +101,7 @@ pub(crate) fn laid_out(alloc: Global, tree: &Local) -> Result<(Draft, Node), All
 }
 
 impl Draft {
-    // A draft that has no rows and no labels.
+    // The draft before any row: three empty lists, which do not allocate yet.
     fn new(alloc: Global) -> Draft
         ensures rows { result.rows.items ≡ [] }
         ensures labels { result.labels.items ≡ [] }
@@ -112,8 +114,8 @@ impl Draft {
         }
     }
 
-    // Adds the rows and the labels of a type, in which the variables that are bound outside have the nodes of `bound`.
-    // After an error some of them may be there.
+    // Appends the rows and labels of a type, node by node in preorder; `bound` has the nodes of the variables that are
+    // bound around it. It fails only when out of memory: some may be appended then, and the draft is dropped.
     #[cycle(lay)]
     fn lay(&mut self, tree: &Local, bound: &Bound<'_>) -> Result<(), AllocError>
         requires rows { row_count self.old + size (plain tree.now) ≤ 256 }
@@ -168,7 +170,8 @@ impl Draft {
         }
     }
 
-    // Adds the rows and the labels of the types that follow the labels, branch by branch.
+    // `lay` for the types of a choice's branches, in order, whose labels are there already. After an error some rows
+    // may be appended.
     #[cycle(lay)]
     fn lay_branches(&mut self, branches: &Branches, bound: &Bound<'_>) -> Result<(), AllocError>
         requires rows { row_count self.old + branch_size (plain_branches branches.now) ≤ 256 }
@@ -186,8 +189,8 @@ impl Draft {
         }
     }
 
-    // Adds the labels of the choice whose row comes next, each with the node after it, and says where the first stands
-    // and how many they are. Both numbers are at most 256.
+    // Appends the labels of the choice whose row comes next, each with the node that follows it, and returns the place
+    // of the first and how many they are, both at most 256. After an error some labels may be appended.
     fn lay_labels(
         &mut self,
         branches: &Branches,
@@ -208,7 +211,8 @@ impl Draft {
         Ok((first as u16, count as u16))
     }
 
-    // Adds the labels of branches whose rows begin at the place `at`, each with the node after it.
+    // The recursion of `lay_labels`: appends the labels of branches whose rows begin at the place `at`, each with its
+    // node. After an error some labels may be appended.
     fn push_labels(
         &mut self,
         branches: &Branches,
@@ -232,14 +236,16 @@ impl Draft {
         }
     }
 
-    // Adds a row after the others.
+    // Appends a row. Apart, so that its contract says `Adds`, by which the proof of `lay` goes. It fails only when out
+    // of memory, and appends nothing then.
     fn push_row(&mut self, row: TableRow) -> Result<(), AllocError>
         ensures { OnOk result (Adds self.old self.new (row ∷ []) [] []) }
     {
         Ok(self.rows.push(row)?)
     }
 
-    // Adds a label after the others, and at the same place of its own list the node that follows the label.
+    // Appends a label, and at the same place of its own list the node that follows it. When out of memory one of the
+    // lists may be longer by one; the draft is dropped then.
     fn push_label(&mut self, label: Name, node: Node) -> Result<(), AllocError>
         ensures { OnOk result (Adds self.old self.new [] (label ∷ []) (node ∷ [])) }
     {

@@ -41,7 +41,7 @@ impl Model for Table {
 }
 
 impl Table {
-    /// The node that stands for the type of which the table was made.
+    /// The node that stands for the whole type: where its role stands when a session is opened.
     pub fn first(&self) -> Node
         ensures first { result ≡ self.now.first }
         ensures node { IsNode self.now result }
@@ -49,7 +49,7 @@ impl Table {
         self.first
     }
 
-    /// What a role may do first at a node of this table.
+    /// What a role may do first at a node of this table, labels borrowed from it. O(1), and it does not allocate.
     pub fn expect(&self, node: Node) -> Expect<'_>
         requires node { IsNode self.now node }
         ensures row { option_map (shown self.now) (slice_get self.now.rows node)
@@ -62,8 +62,8 @@ impl Table {
         self.shown(self.row(node))
     }
 
-    /// The node that follows one of this table: after a value with no choice, after a choice with the place of the
-    /// label that was chosen.
+    /// The node after an action: after a value with no `choice`, after a label with its place among the node's labels.
+    /// The action has to be one that `expect` gives for the node. O(1).
     pub fn after(&self, node: Node, choice: Option<usize>) -> Node
         requires action { HasNext self.now node choice }
         ensures node { IsNode self.now result }
@@ -81,7 +81,8 @@ impl Table {
         }
     }
 
-    // The row of a node.
+    // A copy of the row at a node of this table. Apart, since its contract says for callers that the row's labels and
+    // next nodes are in range.
     fn row(&self, node: Node) -> TableRow
         requires { IsNode self.now node }
         ensures row { slice_get self.now.rows node ≡ Some result }
@@ -92,7 +93,8 @@ impl Table {
         self.rows[node.index()]
     }
 
-    // What a row says that the role may do first.
+    // What a row says as an `Expect`, its labels looked up in the table. Apart from `expect`, so that its contract is
+    // about any row.
     fn shown(&self, row: TableRow) -> Expect<'_>
         requires within { IsWithin (length self.now.labels) row }
         ensures { head_of result ≡ shown self.now row }
@@ -112,7 +114,7 @@ impl Table {
         }
     }
 
-    // The `count` labels from the place `first` on.
+    // The `count` labels from the place `first` on, borrowed, as the row of a choice has both; they are in range.
     fn labels_at(&self, first: u16, count: u16) -> &[Name]
         requires { first + count ≤ length self.now.labels }
         ensures { result.now ≡ slice_range self.now.labels first (first + count) }

@@ -122,7 +122,7 @@ pub fn name(group: Group, k: usize) -> Option<&'static str> {
 }
 
 // Makes a call that is no command.
-fn call_made<R: Wait + 'static>(
+fn call_made<R: Wait + Eprint + 'static>(
     rt: &R,
     alloc: Global,
     call: Call,
@@ -159,7 +159,7 @@ fn call_made<R: Wait + 'static>(
 }
 
 /// Makes the group's k-th call, from 0.
-pub fn made<R: Wait + 'static>(
+pub fn made<R: Wait + Eprint + 'static>(
     rt: &R,
     alloc: Global,
     group: Group,

@@ -242,7 +242,7 @@ fn hub(alloc: Global) -> Option<Hub>
 }
 
 // How the connection ends.
-fn connect<R: Wait + 'static>(
+fn connect<R: Wait + Eprint + 'static>(
     rt: &R,
     alloc: Global,
     desk: &Desk<'_>,
@@ -259,7 +259,7 @@ fn connect<R: Wait + 'static>(
 }
 
 // Whether the pass is back, and a further connection finds the step, or finds that there is none.
-fn is_back<R: Wait + 'static>(
+fn is_back<R: Wait + Eprint + 'static>(
     rt: &R,
     alloc: Global,
     desk: &Desk<'_>,
@@ -276,7 +276,7 @@ fn is_back<R: Wait + 'static>(
 }
 
 // Attends to the connection, and judges what it was told.
-fn attends_to<R: Wait + 'static>(
+fn attends_to<R: Wait + Eprint + 'static>(
     rt: &R,
     alloc: Global,
     desk: &Desk<'_>,
@@ -297,7 +297,7 @@ fn attends_to<R: Wait + 'static>(
 }
 
 // What it comes to where the connection was told this, and ended so.
-fn told<R: Wait + 'static>(
+fn told<R: Wait + Eprint + 'static>(
     rt: &R,
     alloc: Global,
     desk: &Desk<'_>,
@@ -323,7 +323,7 @@ fn is_untold(bytes: &[u8], ended: Attended) -> bool {
 }
 
 // Attends to such a connection of the desk.
-fn attends_at<R: Wait + 'static>(
+fn attends_at<R: Wait + Eprint + 'static>(
     rt: &R,
     alloc: Global,
     desk: &Desk<'_>,
@@ -334,7 +334,7 @@ fn attends_at<R: Wait + 'static>(
 }
 
 /// Attends to a connection that joins and sends one command.
-pub fn attends<R: Wait + 'static>(rt: &R, alloc: Global, until: Until) -> Option<Outcome> {
+pub fn attends<R: Wait + Eprint + 'static>(rt: &R, alloc: Global, until: Until) -> Option<Outcome> {
     let mut hub = hub(alloc)?;
     let desk = hub.desk(alloc).ok()?;
     attends_at(rt, alloc, &desk, until)

@@ -38,7 +38,12 @@ fn status(outcome: Option<Outcome>) -> u8 {
 }
 
 // Makes the group's call of that name, and gives the status.
-fn called<R: AllocGlobal + Wait + 'static>(rt: &R, group: Group, word: &str, until: Until) -> u8 {
+fn called<R: AllocGlobal + Wait + Eprint + 'static>(
+    rt: &R,
+    group: Group,
+    word: &str,
+    until: Until,
+) -> u8 {
     for k in 0..MANY {
         if name(group, k) == Some(word) {
             return status(made(rt, rt.alloc(), group, k, until));
@@ -48,7 +53,7 @@ fn called<R: AllocGlobal + Wait + 'static>(rt: &R, group: Group, word: &str, unt
 }
 
 // Makes the call that the words name, of which the first is the program's own name.
-fn asked<R: AllocGlobal + Wait + 'static>(rt: &R, words: &[String]) -> u8 {
+fn asked<R: AllocGlobal + Wait + Eprint + 'static>(rt: &R, words: &[String]) -> u8 {
     let [_, group, word, until] = words else {
         return 2;
     };
@@ -60,7 +65,11 @@ fn asked<R: AllocGlobal + Wait + 'static>(rt: &R, words: &[String]) -> u8 {
 
 // Makes each call of the group, and prints its name after the group's word. Gives the status of the first that isn't
 // answered.
-fn all_of<R: AllocGlobal + Print + Wait + 'static>(rt: &R, word: &str, group: Group) -> u8 {
+fn all_of<R: AllocGlobal + Print + Eprint + Wait + 'static>(
+    rt: &R,
+    word: &str,
+    group: Group,
+) -> u8 {
     for k in 0..MANY {
         let Some(name) = name(group, k) else {
             return 0;
@@ -77,7 +86,7 @@ fn all_of<R: AllocGlobal + Print + Wait + 'static>(rt: &R, word: &str, group: Gr
 }
 
 // Makes each call, and prints its name.
-fn all<R: AllocGlobal + Print + Wait + 'static>(rt: &R) -> u8 {
+fn all<R: AllocGlobal + Print + Eprint + Wait + 'static>(rt: &R) -> u8 {
     for (word, group) in GROUPS {
         let status = all_of(rt, word, *group);
         if status != 0 {

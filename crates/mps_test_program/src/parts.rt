@@ -1,4 +1,4 @@
-//! mps_words, mps_program: words become orders, texts become sessions, and each fault has its line and its status.
+//! mps_program: texts become sessions, and each fault has its line and its status.
 ghost use Rattle.std.specs.Prelude.{◌≡◌, length, IfOk};
 ghost use Rattle.mps_machine.specs.Machine.{initial};
 
@@ -12,7 +12,6 @@ use mps_program::{
 use mps_session::Session;
 use mps_text::TextKind;
 use mps_wire::script::replay_session;
-use mps_words::order;
 use std::alloc::{AllocError, Global};
 use std::process::Abort;
 use std::test::Fail;
@@ -88,180 +87,25 @@ const NUMBERS: &[Script] = &[
 fn plays(rt: &impl Abort, alloc: Global, scripts: &[Script]) -> Result<(), Fail> {
     for Script(protocol, script, want) in scripts {
         let found = answers(alloc, protocol, script)?;
-        assert_eq!(rt; found.as_slice(), want.as_bytes());
+        assert_eq!(rt;
+            found.as_slice(),
+            want.as_bytes(),
+            "the answers to {script}"
+        );
     }
     Ok(())
 }
 
-// A session of `load_opening` answers a script by `replay_session`, as `mps_tool run` does.
+// `mps_program::load_opening` gives a session that answers a script by `replay_session`, as `mps_tool run` does.
 #[test]
-fn answers_scripts(rt: HostRuntime) -> Result<(), Fail> {
+fn a_loaded_session_answers_its_scripts(rt: HostRuntime) -> Result<(), Fail> {
     plays(&rt, rt.alloc(), SCRIPTS)
 }
 
-// `replay_session` reads an int up to the greatest, and no greater one.
+// `mps_wire::script::replay_session` reads an int up to the greatest, and no greater one.
 #[test]
-fn reads_numbers_to_the_last(rt: HostRuntime) -> Result<(), Fail> {
+fn ints_are_read_up_to_the_greatest(rt: HostRuntime) -> Result<(), Fail> {
     plays(&rt, rt.alloc(), NUMBERS)
-}
-
-// What the words are read as, or the status of the fault.
-fn ordered(alloc: Global, words: &[&str]) -> Result<String, AllocError> {
-    match order(alloc, words) {
-        Ok(order) => format!(in alloc; "{order:?}"),
-        Err(fault) => format!(in alloc; "{}", status(&ToolFault::from(fault))),
-    }
-}
-
-// Words, and what they are read as begins with: an order as it is shown (`Debug`), or the status 2 of a fault of use.
-struct Words(&'static [&'static str], &'static str);
-
-const ORDERS: &[Words] = &[
-    // tasks without a network, each with its files
-    Words(
-        &["mps_tool", "run", "a.protocol", "a.script"],
-        "Offline { task: Run { file: \"a.protocol\", script: \"a.script\", strict: false }, verbose: false }",
-    ),
-    Words(
-        &["mps_tool", "run", "--strict", "a.protocol", "-"],
-        "Offline { task: Run { file: \"a.protocol\", script: \"-\", strict: true }, verbose: false }",
-    ),
-    Words(
-        &["mps_tool", "same", "a.protocol", "a.script", "b.script"],
-        "Offline { task: Same { file: \"a.protocol\", first: \"a.script\", second: \"b.script\" }, verbose: false }",
-    ),
-    Words(
-        &["mps_tool", "check", "a.protocol"],
-        "Offline { task: Check { file: \"a.protocol\" }, verbose: false }",
-    ),
-    // a server: which connections it accepts, and where it records
-    Words(
-        &[
-            "mps_tool",
-            "serve",
-            "a.protocol",
-            "--port=0",
-            "--sessions=2",
-            "--endless",
-        ],
-        "Serve { file: \"a.protocol\", port: 0, sessions: 2, first: 1, connections: None, idle: None, journal: None, verbose: false }",
-    ),
-    Words(
-        &[
-            "mps_tool",
-            "serve",
-            "a.protocol",
-            "--port=0",
-            "--sessions=2",
-            "--connections=3",
-            "-v",
-        ],
-        "Serve { file: \"a.protocol\", port: 0, sessions: 2, first: 1, connections: Some(3), idle: None, journal: None, verbose: true }",
-    ),
-    Words(
-        &[
-            "mps_tool",
-            "serve",
-            "a.protocol",
-            "--port=0",
-            "--sessions=2",
-            "--journal=kept",
-        ],
-        "Serve { file: \"a.protocol\", port: 0, sessions: 2, first: 1, connections: None, idle: None, ",
-    ),
-    // which connections it accepts is said in one way, unless it has a journal
-    Words(
-        &[
-            "mps_tool",
-            "serve",
-            "a.protocol",
-            "--port=0",
-            "--sessions=2",
-        ],
-        "2",
-    ),
-    Words(
-        &[
-            "mps_tool",
-            "serve",
-            "a.protocol",
-            "--port=0",
-            "--sessions=2",
-            "--connections=3",
-            "--endless",
-        ],
-        "2",
-    ),
-    // `-v` may stand anywhere, and more than once
-    Words(
-        &["mps_tool", "-v", "check", "a.protocol"],
-        "Offline { task: Check { file: \"a.protocol\" }, verbose: true }",
-    ),
-    Words(
-        &["mps_tool", "check", "--verbose", "a.protocol"],
-        "Offline { task: Check { file: \"a.protocol\" }, verbose: true }",
-    ),
-    Words(
-        &[
-            "mps_tool",
-            "-v",
-            "-v",
-            "check",
-            "-vv",
-            "a.protocol",
-            "--verbose",
-        ],
-        "Offline { task: Check { file: \"a.protocol\" }, verbose: true }",
-    ),
-    // the greatest number of a first session, 2^63
-    Words(
-        &[
-            "mps_tool",
-            "serve",
-            "a.protocol",
-            "--port=0",
-            "--sessions=2",
-            "--first=9223372036854775808",
-            "--endless",
-        ],
-        "Serve { file: \"a.protocol\", port: 0, sessions: 2, first: 9223372036854775808, ",
-    ),
-    // use and version
-    Words(&["mps_tool", "--help"], "Offline { task: Help { text: "),
-    Words(
-        &["mps_tool", "--version"],
-        "Offline { task: Help { text: \"mps_tool 0.2.0\" }, verbose: false }",
-    ),
-    // words too few, too many, or unknown
-    Words(&["mps_tool"], "2"),
-    Words(&["mps_tool", "fly"], "2"),
-    Words(&["mps_tool", "check"], "2"),
-    Words(&["mps_tool", "check", "a.protocol", "more"], "2"),
-    Words(&["mps_tool", "run"], "2"),
-    Words(&["mps_tool", "run", "a.protocol"], "2"),
-    Words(&["mps_tool", "run", "a.protocol", "a.script", "more"], "2"),
-    Words(&["mps_tool", "same", "a.protocol", "a.script"], "2"),
-    Words(
-        &[
-            "mps_tool",
-            "same",
-            "a.protocol",
-            "a.script",
-            "b.script",
-            "more",
-        ],
-        "2",
-    ),
-];
-
-// `order` of mps_words reads each command with its options, and refuses words that are none.
-#[test]
-fn takes_its_words(rt: HostRuntime) -> Result<(), Fail> {
-    for Words(words, want) in ORDERS {
-        let found = ordered(rt.alloc(), words)?;
-        assert!(rt; found.as_str().starts_with(want), "{found}");
-    }
-    Ok(())
 }
 
 // Whether the fault is told by this line, is shown so too, and has this status.
@@ -271,9 +115,10 @@ fn tells(alloc: Global, fault: &ToolFault<'_>, line: &str, code: u8) -> Result<b
     Ok(told.as_slice() == line.as_bytes() && shown.as_str() == line && status(fault) == code)
 }
 
-// `fault_line` and `Display` tell these faults as FORMATS says, each with its `status`. `a b` and 12 stand for any.
+// `mps_program::fault_line` and `Display` tell these faults as FORMATS says, each with its `status`. `a b` and 12 stand
+// for any.
 #[test]
-fn tells_faults(rt: HostRuntime) -> Result<(), Fail> {
+fn each_fault_has_its_line_and_status(rt: HostRuntime) -> Result<(), Fail> {
     let faults = [
         (
             ToolFault::File {
@@ -293,17 +138,24 @@ fn tells_faults(rt: HostRuntime) -> Result<(), Fail> {
         (ToolFault::Memory, "refused memory", 4),
     ];
     for (fault, line, code) in &faults {
-        assert!(rt; tells(rt.alloc(), fault, line, *code)?, "{line}");
+        assert!(rt;
+            tells(rt.alloc(), fault, line, *code)?,
+            "the fault told as {line}"
+        );
     }
     Ok(())
 }
 
-// The line of a role that has no local type names the role and the choice, 12, which stands for any. Its status is 3.
+// `mps_program::fault_line` names the role that has no local type and the choice, 12, which stands for any. The
+// `status` is 3.
 #[test]
-fn tells_missing_projections(rt: HostRuntime) -> Result<(), Fail> {
+fn a_missing_type_is_told_with_role_and_choice(rt: HostRuntime) -> Result<(), Fail> {
     let role = Name::read(b"c").ok_or("a name")?;
     let fault = ToolFault::Projection { role, choice: 12 };
-    assert!(rt; tells(rt.alloc(), &fault, "refused projection c 12", 3)?);
+    assert!(rt;
+        tells(rt.alloc(), &fault, "refused projection c 12", 3)?,
+        "no type for c"
+    );
     Ok(())
 }
 
@@ -318,15 +170,18 @@ const TEXTS: &[(usize, TextKind, &str)] = &[
     (7, TextKind::Trailing, "refused text trailing 7"),
 ];
 
-// The line of a text's fault has its kind in small letters, and the byte. Its status is 3.
+// `mps_program::fault_line` tells a text's fault by its kind in small letters and the byte. The `status` is 3.
 #[test]
-fn tells_faults_of_texts(rt: HostRuntime) -> Result<(), Fail> {
+fn a_fault_of_a_text_is_told_with_its_byte(rt: HostRuntime) -> Result<(), Fail> {
     for (at, kind, line) in TEXTS {
         let fault = ToolFault::Text {
             at: *at,
             kind: *kind,
         };
-        assert!(rt; tells(rt.alloc(), &fault, line, 3)?, "{line}");
+        assert!(rt;
+            tells(rt.alloc(), &fault, line, 3)?,
+            "the fault told as {line}"
+        );
     }
     Ok(())
 }
@@ -350,12 +205,15 @@ const PROTOCOLS: &[(GlobalFault, &str)] = &[
     (GlobalFault::Unguarded, "refused protocol unguarded"),
 ];
 
-// The line of a protocol's fault has its name in small letters. Its status is 3.
+// `mps_program::fault_line` tells a protocol's fault by its name in small letters. The `status` is 3.
 #[test]
-fn tells_faults_of_protocols(rt: HostRuntime) -> Result<(), Fail> {
+fn a_fault_of_a_protocol_is_told_by_name(rt: HostRuntime) -> Result<(), Fail> {
     for (fault, line) in PROTOCOLS {
         let fault = ToolFault::Protocol { fault: *fault };
-        assert!(rt; tells(rt.alloc(), &fault, line, 3)?, "{line}");
+        assert!(rt;
+            tells(rt.alloc(), &fault, line, 3)?,
+            "the fault told as {line}"
+        );
     }
     Ok(())
 }
@@ -410,7 +268,11 @@ fn given(alloc: Global, what: Had, protocol: &str) -> Result<Vec<u8>, Fail> {
 fn gives(rt: &impl Abort, alloc: Global, what: Had, rows: &[(&str, &str)]) -> Result<(), Fail> {
     for (protocol, want) in rows {
         let found = given(alloc, what, protocol)?;
-        assert_eq!(rt; found.as_slice(), want.as_bytes());
+        assert_eq!(rt;
+            found.as_slice(),
+            want.as_bytes(),
+            "what is had of {protocol}"
+        );
     }
     Ok(())
 }
@@ -437,9 +299,9 @@ const REFUSED: &[(&str, &str)] = &[
     ("roles a a ; end", "refused protocol doublerole"),
 ];
 
-// `load_opening` gives no session of a protocol with a fault, and tells the first fault.
+// `mps_program::load_opening` gives no session of a protocol with a fault, and tells the first fault.
 #[test]
-fn refuses_protocols(rt: HostRuntime) -> Result<(), Fail> {
+fn a_protocol_with_a_fault_gives_no_session(rt: HostRuntime) -> Result<(), Fail> {
     gives(&rt, rt.alloc(), Had::Session, REFUSED)
 }
 
@@ -458,9 +320,10 @@ const LOADED: &[(&str, &str)] = &[
     ("roles a a ; end", "refused protocol doublerole"),
 ];
 
-// `load_opening` reads a protocol in pieces too, and `into_session` gives as many names as the session has roles.
+// `mps_program::load_opening` reads a protocol in pieces too, and `into_session` gives as many names as the session has
+// roles.
 #[test]
-fn loads_sessions(rt: HostRuntime) -> Result<(), Fail> {
+fn a_protocol_in_two_pieces_gives_a_session(rt: HostRuntime) -> Result<(), Fail> {
     gives(&rt, rt.alloc(), Had::Loaded, LOADED)
 }
 
@@ -475,14 +338,14 @@ const LONG: &[(usize, &str)] = &[
     (70_000, "refused text toolong 65536"),
 ];
 
-// `load_opening` reads a text of 65,536 bytes whole, and of a longer one a byte more, which tells that it is too long.
-// Blanks lack a token at their end.
+// `mps_program::load_opening` reads a text of 65,536 bytes whole, and of a longer one a byte more, which tells that it
+// is too long. Blanks lack a token at their end.
 #[test]
-fn reads_no_more_than_a_text(rt: HostRuntime) -> Result<(), Fail> {
+fn a_long_text_is_read_one_byte_past_the_limit(rt: HostRuntime) -> Result<(), Fail> {
     for (count, line) in LONG {
         let pieces = blanks(rt.alloc(), *count)?;
         let found = counted(rt.alloc(), counts(opened(rt.alloc(), pieces)))?;
-        assert_eq!(rt; found.as_slice(), line.as_bytes());
+        assert_eq!(rt; found.as_slice(), line.as_bytes(), "of {count} blanks");
     }
     Ok(())
 }
@@ -513,9 +376,9 @@ const TYPES: &[(&str, &str)] = &[
     ),
 ];
 
-// `lines_of` gives a line for each role, with its projection, as `mps_tool check` prints it.
+// `mps_program::lines_of` gives a line for each role, with its projection, as `mps_tool check` prints it.
 #[test]
-fn shows_types(rt: HostRuntime) -> Result<(), Fail> {
+fn each_role_is_shown_with_its_type(rt: HostRuntime) -> Result<(), Fail> {
     gives(&rt, rt.alloc(), Had::Lines, TYPES)
 }
 
@@ -585,18 +448,22 @@ const WITHOUT_TYPES: &[(&str, &str)] = &[
     ),
 ];
 
-// `load_opening` tells the first fault of a protocol that has no types to show.
+// `mps_program::load_opening` tells the first fault of a protocol that has no types to show.
 #[test]
-fn refuses_to_show_types(rt: HostRuntime) -> Result<(), Fail> {
+fn a_protocol_with_a_fault_shows_no_types(rt: HostRuntime) -> Result<(), Fail> {
     gives(&rt, rt.alloc(), Had::Lines, WITHOUT_TYPES)
 }
 
-// `read_text` reads a text to its end, whatever pieces it comes in.
+// `mps_program::read_text` reads a text to its end, whatever pieces it comes in.
 #[test]
-fn reads_texts(rt: HostRuntime) -> Result<(), Fail> {
+fn a_text_in_two_pieces_is_read_to_its_end(rt: HostRuntime) -> Result<(), Fail> {
     let mut reader = Pieces::new(halves(rt.alloc(), "roles a b ; end")?, None);
     match read_text(rt.alloc(), &mut reader) {
-        Ok(text) => assert_eq!(rt; text.as_slice(), b"roles a b ; end".as_slice()),
+        Ok(text) => assert_eq!(rt;
+            text.as_slice(),
+            b"roles a b ; end".as_slice(),
+            "of a text in two pieces"
+        ),
         Err(_) => return Err("a text".into()),
     }
     Ok(())
@@ -607,13 +474,20 @@ fn is_failed_read<T: Drop>(had: Result<T, ToolFault<'_>>) -> bool {
     matches!(had, Err(ToolFault::Read { .. }))
 }
 
-// `read_text` and `load_opening` tell a failed read, here the second, also where the first gave a whole protocol.
+// `mps_program::read_text` and `load_opening` tell a failed read, here the second, also where the first gave a whole
+// protocol.
 #[test]
-fn tells_reads_that_fail(rt: HostRuntime) -> Result<(), Fail> {
+fn a_read_that_fails_is_told(rt: HostRuntime) -> Result<(), Fail> {
     let mut reader = Pieces::new(whole(rt.alloc(), "roles a")?, Some(2));
-    assert!(rt; is_failed_read(read_text(rt.alloc(), &mut reader)));
+    assert!(rt;
+        is_failed_read(read_text(rt.alloc(), &mut reader)),
+        "by read_text"
+    );
     let mut reader = Pieces::new(whole(rt.alloc(), RELAY)?, Some(2));
-    assert!(rt; is_failed_read(load_opening(rt.alloc(), &mut reader)));
+    assert!(rt;
+        is_failed_read(load_opening(rt.alloc(), &mut reader)),
+        "by load_opening"
+    );
     Ok(())
 }
 
@@ -708,14 +582,25 @@ fn compared(alloc: Global, scripts: &Scripts) -> Result<(Vec<u8>, u8), Fail> {
     }
 }
 
-// `verdict_of` says `same`, with status 0, where each role did the same in both scripts, else `different`, with 1.
-// Where a run breaks off, that is a fault.
+// `mps_program::verdict_of` says `same`, with status 0, where each role did the same in both scripts, else `different`,
+// with 1. Where a run breaks off, that is a fault.
 #[test]
-fn compares_scripts(rt: HostRuntime) -> Result<(), Fail> {
+fn scripts_are_the_same_where_each_role_did_the_same(rt: HostRuntime) -> Result<(), Fail> {
     for scripts in COMPARED {
         let (line, code) = compared(rt.alloc(), scripts)?;
-        assert_eq!(rt; line.as_slice(), scripts.4.as_bytes(), "{}", scripts.0);
-        assert_eq!(rt; code, scripts.5, "{}", scripts.0);
+        assert_eq!(rt;
+            line.as_slice(),
+            scripts.4.as_bytes(),
+            "the verdict on {} and {}",
+            scripts.0,
+            scripts.1
+        );
+        assert_eq!(rt;
+            code,
+            scripts.5,
+            "the status for {} and {}",
+            scripts.0, scripts.1
+        );
     }
     Ok(())
 }
@@ -728,23 +613,36 @@ fn names_no_file(alloc: Global, fault: Option<ToolFault<'_>>) -> Result<bool, Al
     }
 }
 
-// `open_file` and `check_file` name a file that isn't there, on the machine of the test itself. The status is 2.
+// `mps_program::open_file` and `check_file` name a file that isn't there, on the machine of the test itself. The status
+// is 2.
 #[test]
-fn names_files_that_do_not_open(rt: HostRuntime) -> Result<(), Fail> {
+fn a_file_that_does_not_open_is_named(rt: HostRuntime) -> Result<(), Fail> {
     let found = open_file(&rt, "no such file").err();
-    assert!(rt; names_no_file(rt.alloc(), found)?);
+    assert!(rt;
+        names_no_file(rt.alloc(), found)?,
+        "the fault of open_file, status 2"
+    );
     let found = check_file(&rt, "no such file").err();
-    assert!(rt; names_no_file(rt.alloc(), found)?);
+    assert!(rt;
+        names_no_file(rt.alloc(), found)?,
+        "the fault of check_file, status 2"
+    );
     Ok(())
 }
 
-// `run_file` and `compare_files` look for the protocol first: that file is named, not the scripts.
+// `mps_program::run_file` and `compare_files` look for the protocol first: that file is named, not the scripts.
 #[test]
-fn runs_no_file_that_does_not_open(rt: HostRuntime) -> Result<(), Fail> {
+fn a_protocol_that_does_not_open_is_named_first(rt: HostRuntime) -> Result<(), Fail> {
     let found = run_file(&rt, "no such file", "no such script", true, false).err();
-    assert!(rt; names_no_file(rt.alloc(), found)?);
+    assert!(rt;
+        names_no_file(rt.alloc(), found)?,
+        "the fault of run_file, status 2"
+    );
     let found = compare_files(&rt, "no such file", "no such script", "nor this", false).err();
-    assert!(rt; names_no_file(rt.alloc(), found)?);
+    assert!(rt;
+        names_no_file(rt.alloc(), found)?,
+        "the fault of compare_files, status 2"
+    );
     Ok(())
 }
 
@@ -788,23 +686,36 @@ fn write_to(
     Ok((Vec::from_slice(alloc, writer.bytes())?, line))
 }
 
-// `write_types` writes a line for each role once all is read and checked, or tells why not.
+// `mps_program::write_types` writes a line for each role once all is read and checked, or tells why not.
 #[test]
-fn writes_types(rt: HostRuntime) -> Result<(), Fail> {
+fn types_are_written_once_all_is_checked(rt: HostRuntime) -> Result<(), Fail> {
     for Written(protocol, room, lines, fault) in WRITTEN {
         let pieces = halves(rt.alloc(), protocol)?;
         let (found, line) = write_to(rt.alloc(), pieces, None, *room)?;
-        assert_eq!(rt; found.as_slice(), lines.as_bytes());
-        assert_eq!(rt; line.as_slice(), fault.as_bytes());
+        assert_eq!(rt;
+            found.as_slice(),
+            lines.as_bytes(),
+            "{protocol} with room for {room}"
+        );
+        assert_eq!(rt;
+            line.as_slice(),
+            fault.as_bytes(),
+            "{protocol} with room for {room}"
+        );
     }
     Ok(())
 }
 
-// `write_types` writes nothing where the second read fails, though the first gave a whole protocol.
+// `mps_program::write_types` writes nothing where the second read fails, though the first gave a whole protocol.
 #[test]
-fn writes_nothing_after_a_failed_read(rt: HostRuntime) -> Result<(), Fail> {
+fn nothing_is_written_after_a_read_that_failed(rt: HostRuntime) -> Result<(), Fail> {
     let pieces = whole(rt.alloc(), RELAY)?;
     let (found, line) = write_to(rt.alloc(), pieces, Some(2), 1000)?;
-    assert!(rt; found.is_empty() && line.as_slice() == b"refused read".as_slice());
+    assert_eq!(rt; found.len(), 0, "the bytes written after a failed read");
+    assert_eq!(rt;
+        line.as_slice(),
+        b"refused read".as_slice(),
+        "the fault of the failed read"
+    );
     Ok(())
 }

@@ -247,25 +247,32 @@ fn run_rows(rt: &impl Abort, alloc: Global, rows: &[Row]) -> Result<(), Fail> {
     for Row(protocol, lines) in rows {
         let (script, want) = both(alloc, lines)?;
         let found = answers(alloc, protocol, script.as_str())?;
-        assert_eq!(rt; found.as_slice(), want.as_bytes());
+        assert_eq!(rt;
+            found.as_slice(),
+            want.as_bytes(),
+            "the answers to {script}"
+        );
     }
     Ok(())
 }
 
-// `undo` takes a role's own step back on which no other depends, and is else refused with the reason.
+// `mps_tool run` answers `undo`, which takes a role's own step back on which no other depends, and is else refused with
+// the reason.
 #[test]
-fn takes_single_steps_back(rt: HostRuntime) -> Result<(), Fail> {
+fn undo_takes_back_a_step_on_which_none_depends(rt: HostRuntime) -> Result<(), Fail> {
     run_rows(&rt, rt.alloc(), UNDOS)
 }
 
-// `news` tells a role which of its steps others took back, and `show` shows the session, its JSON written out by hand.
+// `mps_tool run` answers `news`, which tells a role which of its steps others took back, and `show` shows the session,
+// its JSON written out by hand.
 #[test]
-fn tells_news_and_shows_sessions(rt: HostRuntime) -> Result<(), Fail> {
+fn news_tell_what_others_took_back_and_show_shows_it(rt: HostRuntime) -> Result<(), Fail> {
     run_rows(&rt, rt.alloc(), QUESTIONS)
 }
 
-// `rollback` and `back` take a step back with all that depend on it, newest first, and nothing else.
+// `mps_tool run` answers `rollback` and `back`, which take a step back with all that depend on it, newest first, and
+// nothing else.
 #[test]
-fn takes_steps_back_with_what_depends_on_them(rt: HostRuntime) -> Result<(), Fail> {
+fn rollback_and_back_take_back_what_depends_on_a_step(rt: HostRuntime) -> Result<(), Fail> {
     run_rows(&rt, rt.alloc(), ROLLBACKS)
 }

@@ -26,6 +26,7 @@ const VERDICT: &[u8] =
 const ONE: Limits = Limits {
     connections: Some(1),
     idle: None,
+    strict: false,
 };
 
 // What a server of so many sessions of the protocol writes, where one client comes. The first session has that number.
@@ -101,9 +102,10 @@ fn free_port<R: Net<Listener = TcpListener, Stream = TcpStream>>(rt: &R) -> io::
     TcpListener::bind(rt, "127.0.0.1:0")?.local_addr()
 }
 
-// A server of two sessions tells its port, and once its one client has gone the length of each journal: 0 and 1.
+// `mps_program::serve_to`: a server of two sessions tells its port, and once its one client, of session 2, has gone the
+// length of each journal: 0, and 1 for the accepted send.
 #[test]
-fn serves_a_client(rt: HostRuntime) -> Result<(), Fail> {
+fn a_server_tells_its_port_and_the_lengths_of_its_journals(rt: HostRuntime) -> Result<(), Fail> {
     let alloc = rt.alloc();
     let addr = free_port(&rt)?;
     let (lines, answers) = join(
@@ -113,15 +115,23 @@ fn serves_a_client(rt: HostRuntime) -> Result<(), Fail> {
     );
     let lines = lines?;
     let answers = answers?;
-    assert!(rt; answers.as_slice() == b"joined 2 a\ndone 1\nrefused ended\n".as_slice());
-    assert!(rt; lines.starts_with(b"listening "));
-    assert!(rt; lines.ends_with(b"\nsession 1 0\nsession 2 1\n"));
+    assert_eq!(rt;
+        answers.as_slice(),
+        b"joined 2 a\ndone 1\nrefused ended\n".as_slice(),
+        "what the client is answered"
+    );
+    assert!(rt; lines.starts_with(b"listening "), "the port is told first");
+    assert!(rt;
+        lines.ends_with(b"\nsession 1 0\nsession 2 1\n"),
+        "the length of each journal"
+    );
     Ok(())
 }
 
-// The greatest number of a first session is 2^63 (`1 << 63`), 9223372036854775808. The next session has the next one.
+// `mps_program::serve_to` numbers sessions from 2^63 (`1 << 63`), 9223372036854775808, the greatest first number. The
+// next session has the next one.
 #[test]
-fn numbers_sessions_to_the_last(rt: HostRuntime) -> Result<(), Fail> {
+fn sessions_are_numbered_from_the_greatest_first_number(rt: HostRuntime) -> Result<(), Fail> {
     let alloc = rt.alloc();
     let addr = free_port(&rt)?;
     let (lines, answers) = join(
@@ -131,9 +141,14 @@ fn numbers_sessions_to_the_last(rt: HostRuntime) -> Result<(), Fail> {
     );
     let lines = lines?;
     let answers = answers?;
-    assert!(rt; answers.as_slice() == b"joined 9223372036854775809 a\ndone 1\n".as_slice());
+    assert_eq!(rt;
+        answers.as_slice(),
+        b"joined 9223372036854775809 a\ndone 1\n".as_slice(),
+        "what the client is answered"
+    );
     assert!(rt;
-        lines.ends_with(b"\nsession 9223372036854775808 0\nsession 9223372036854775809 1\n")
+        lines.ends_with(b"\nsession 9223372036854775808 0\nsession 9223372036854775809 1\n"),
+        "the numbers of the two sessions"
     );
     Ok(())
 }
@@ -144,9 +159,10 @@ const COUNTED: &[u8] = b"join 1 a\nsend b 5\nsend b 6\nundo 1\nnews 0\nundo 1\ns
 const ANSWERS: &[u8] =
     b"joined 1 a\ndone 1\nrefused wrongact\nundone 1\nnews 2\nrefused nostep\ndone 2\n";
 
-// A journal has an entry for each change that was accepted, 3 of these 6 lines.
+// `mps_program::serve_to` tells the length of a journal, which has an entry for each change that was accepted, 3 of
+// these 6 lines.
 #[test]
-fn counts_accepted_commands(rt: HostRuntime) -> Result<(), Fail> {
+fn a_journal_has_an_entry_for_each_accepted_change(rt: HostRuntime) -> Result<(), Fail> {
     let alloc = rt.alloc();
     let addr = free_port(&rt)?;
     let (lines, answers) = join(
@@ -156,8 +172,12 @@ fn counts_accepted_commands(rt: HostRuntime) -> Result<(), Fail> {
     );
     let lines = lines?;
     let answers = answers?;
-    assert!(rt; answers.as_slice() == ANSWERS);
+    assert_eq!(rt; answers.as_slice(), ANSWERS, "what the client is answered");
     let wanted = format!(in alloc; "listening {}\nsession 1 3\n", addr.port())?;
-    assert!(rt; lines.as_slice() == wanted.as_bytes());
+    assert_eq!(rt;
+        lines.as_slice(),
+        wanted.as_bytes(),
+        "the port and the length of the journal"
+    );
     Ok(())
 }

@@ -547,44 +547,48 @@ fn run_shown(rt: &impl Abort, alloc: Global, show: &str, rows: &[Row]) -> Result
     for Row(protocol, lines) in rows {
         let (script, want) = both(alloc, show, lines)?;
         let found = answers(alloc, protocol, script.as_str().trim_end())?;
-        assert_eq!(rt; found.as_slice(), want.as_bytes());
+        assert_eq!(rt;
+            found.as_slice(),
+            want.as_bytes(),
+            "the answers to {script}"
+        );
     }
     Ok(())
 }
 
-// `show` of a, the first role, after each line of the relay's scripts.
+// `mps_tool run` answers `show` of a, the first role, after each line of the relay's scripts.
 #[test]
-fn shows_relays_to_their_first(rt: HostRuntime) -> Result<(), Fail> {
+fn the_first_role_is_shown_a_relay(rt: HostRuntime) -> Result<(), Fail> {
     run_shown(&rt, rt.alloc(), "a show", RELAYS)
 }
 
-// `show` of c, the last role, is the same: what is shown doesn't depend on who asks.
+// `mps_tool run` answers `show` of c, the last role, alike: what is shown doesn't depend on who asks.
 #[test]
-fn shows_relays_to_their_last(rt: HostRuntime) -> Result<(), Fail> {
+fn the_last_role_is_shown_the_same_relay(rt: HostRuntime) -> Result<(), Fail> {
     run_shown(&rt, rt.alloc(), "c show", RELAYS)
 }
 
-// `show` of b, who stands in the middle, after each line of a relay without a choice.
+// `mps_tool run` answers `show` of b, who stands in the middle, after each line of a relay without a choice.
 #[test]
-fn shows_what_is_handed_on(rt: HostRuntime) -> Result<(), Fail> {
+fn a_role_in_the_middle_is_shown_what_is_handed_on(rt: HostRuntime) -> Result<(), Fail> {
     run_shown(&rt, rt.alloc(), "b show", HANDINGS)
 }
 
-// `show` of d, who does nothing, after each line of what the others do.
+// `mps_tool run` answers `show` of d, who does nothing, after each line of what the others do.
 #[test]
-fn shows_two_pairs(rt: HostRuntime) -> Result<(), Fail> {
+fn a_role_that_does_nothing_is_shown_what_others_do(rt: HostRuntime) -> Result<(), Fail> {
     run_shown(&rt, rt.alloc(), "d show", TWO_PAIRS)
 }
 
-// `show` of a, who sends, after each line of the loop's scripts.
+// `mps_tool run` answers `show` of a, who sends, after each line of the loop's scripts.
 #[test]
-fn shows_loops_to_the_sender(rt: HostRuntime) -> Result<(), Fail> {
+fn the_sender_in_a_loop_is_shown_the_session(rt: HostRuntime) -> Result<(), Fail> {
     run_shown(&rt, rt.alloc(), "a show", LOOPS)
 }
 
-// `show` of b, who receives, is the same: what is shown doesn't depend on who asks.
+// `mps_tool run` answers `show` of b, who receives, alike: what is shown doesn't depend on who asks.
 #[test]
-fn shows_loops_to_the_receiver(rt: HostRuntime) -> Result<(), Fail> {
+fn the_receiver_in_a_loop_is_shown_the_same_session(rt: HostRuntime) -> Result<(), Fail> {
     run_shown(&rt, rt.alloc(), "b show", LOOPS)
 }
 
@@ -617,15 +621,19 @@ fn fill(alloc: Global, script: &mut String, want: &mut String) -> Result<(), All
     want.push_str("done 50000\ndone 50001\n")
 }
 
-// A room with 100,000 entries refuses what it would accept as full, and still tells news and shows the session.
+// `mps_tool run`: a room with 100,000 entries refuses what it would accept as full, and still tells news and shows the
+// session.
 #[test]
-fn shows_a_full_session(rt: HostRuntime) -> Result<(), Fail> {
+fn a_full_session_is_still_shown(rt: HostRuntime) -> Result<(), Fail> {
     let (mut script, mut want) = (String::new(rt.alloc()), String::new(rt.alloc()));
     fill(rt.alloc(), &mut script, &mut want)?;
     let (more, answered) = both(rt.alloc(), "a show", AT_THE_LIMIT)?;
     script.push_str(more.as_str())?;
     want.push_str(answered.as_str())?;
     let found = answers(rt.alloc(), PAIRS, script.as_str())?;
-    assert!(rt; found.as_slice() == want.as_bytes());
+    assert!(rt;
+        found.as_slice() == want.as_bytes(),
+        "what is answered after 100,000 entries"
+    );
     Ok(())
 }

@@ -529,69 +529,72 @@ fn called(alloc: Global, words: &[&str], room: usize) -> (Vec<u8>, Vec<u8>, Exit
 fn plays(rt: &impl Abort, alloc: Global, rows: &[Row]) {
     for Row(words, room, out, err, code) in rows {
         let (printed, told, status) = called(alloc, words, *room);
-        assert!(rt; printed.as_slice() == out.as_bytes(), "{out}");
-        assert!(rt; told.as_slice() == err.as_bytes(), "{err}");
-        assert!(rt; status == ExitCode::from(*code), "{out}{err}");
+        assert_eq!(rt; printed.as_slice(), out.as_bytes(), "what {words:?} prints");
+        assert_eq!(rt; told.as_slice(), err.as_bytes(), "what {words:?} tells");
+        assert!(rt;
+            status == ExitCode::from(*code),
+            "{words:?} ends with {code}"
+        );
     }
 }
 
 // `mps_tool run` prints the answers, or tells one line of what went wrong, with its status.
 #[test]
-fn runs_scripts(rt: HostRuntime) {
+fn run_prints_the_answers_or_one_line_of_the_fault(rt: HostRuntime) {
     plays(&rt, rt.alloc(), RUNS)
 }
 
 // `mps_tool run --strict` ends with the first refused line, and with status 1 then.
 #[test]
-fn runs_to_the_first_refusal(rt: HostRuntime) {
+fn a_strict_run_ends_with_the_first_refused_line(rt: HostRuntime) {
     plays(&rt, rt.alloc(), STRICT)
 }
 
 // `mps_tool run` answers each line, refused ones too, in order.
 #[test]
-fn runs_loops_and_choices(rt: HostRuntime) {
+fn run_answers_each_line_of_a_loop_with_a_choice(rt: HostRuntime) {
     plays(&rt, rt.alloc(), LOOPS_AND_CHOICES)
 }
 
 // `mps_tool run` answers rollbacks and undos, also in a last line without an LF.
 #[test]
-fn takes_back_what_went_round(rt: HostRuntime) {
+fn run_answers_rollbacks_and_undos_in_a_loop(rt: HostRuntime) {
     plays(&rt, rt.alloc(), TAKEN_BACK)
 }
 
 // `mps_tool same` prints `same` or `different`, with status 0 or 1, or tells what went wrong.
 #[test]
-fn compares_files(rt: HostRuntime) {
+fn same_prints_whether_two_scripts_are_the_same(rt: HostRuntime) {
     plays(&rt, rt.alloc(), COMPARISONS)
 }
 
 // `mps_tool -v` tells the system's reason, and the lines that were refused, beside the fault's own line.
 #[test]
-fn says_more(rt: HostRuntime) {
+fn a_verbose_call_tells_the_reason_beside_the_fault(rt: HostRuntime) {
     plays(&rt, rt.alloc(), VERBOSE)
 }
 
 // `mps_tool -v run` tells the number of each unreadable line, and why. A strict run tells no more than its last line.
 #[test]
-fn says_why_lines_are_unreadable(rt: HostRuntime) {
+fn a_verbose_run_tells_why_a_line_is_unreadable(rt: HostRuntime) {
     plays(&rt, rt.alloc(), UNREADABLE)
 }
 
 // `mps_tool run` and `check` write texts and truth values, and their sorts.
 #[test]
-fn sends_texts_and_truth_values(rt: HostRuntime) {
+fn texts_and_truth_values_are_written_as_they_are_sent(rt: HostRuntime) {
     plays(&rt, rt.alloc(), GREETINGS)
 }
 
 // `mps_tool --version` and `-V` print it, with status 0.
 #[test]
-fn tells_its_version(rt: HostRuntime) {
+fn version_is_printed_with_status_0(rt: HostRuntime) {
     plays(&rt, rt.alloc(), VERSIONS)
 }
 
 // `mps_tool check` prints a line for each role, or tells the first fault, with its status.
 #[test]
-fn checks_protocols(rt: HostRuntime) {
+fn check_prints_the_type_of_each_role_or_the_fault(rt: HostRuntime) {
     plays(&rt, rt.alloc(), CHECKS)
 }
 
@@ -603,35 +606,54 @@ fn ends_with(alloc: Global, fault: ToolFault<'_>, line: &str, code: u8) -> bool 
     printed.is_empty() && told.as_slice() == line.as_bytes() && status == ExitCode::from(code)
 }
 
-// The program tells why a server ended, here that nothing can be accepted, or that session 2 is lost, and ends with 4.
+// `mps_program::end_after` tells why a server ended, here that nothing can be accepted, or that session 2 is lost. The
+// status is 4.
 #[test]
-fn tells_what_ends_a_server(rt: HostRuntime) {
+fn the_fault_that_ends_a_server_is_told_with_status_4(rt: HostRuntime) {
     let alloc = rt.alloc();
-    assert!(rt; ends_with(alloc, ToolFault::Accept, "refused accept\n", 4));
-    assert!(rt; ends_with(alloc, ToolFault::Lost { session: 2 }, "refused lost 2\n", 4));
+    assert!(rt;
+        ends_with(alloc, ToolFault::Accept, "refused accept\n", 4),
+        "nothing can be accepted"
+    );
+    assert!(rt;
+        ends_with(alloc, ToolFault::Lost { session: 2 }, "refused lost 2\n", 4),
+        "session 2 is lost"
+    );
 }
 
-// Words that are none of the program's: nothing is printed, the standard error is told, and the status is 2.
+// `mps_words::order` refuses words that are none of the program's: nothing is printed, the standard error is told, the
+// status is 2.
 #[test]
-fn tells_misuse(rt: HostRuntime) {
+fn words_of_no_command_are_told_with_status_2(rt: HostRuntime) {
     let (printed, told, status) = called(rt.alloc(), &["mps_tool", "fly"], 1000);
-    assert!(rt; printed.is_empty() && told.ends_with(b"\n") && status == ExitCode::from(2));
+    assert_eq!(rt; printed.len(), 0, "the bytes that mps_tool fly prints");
+    assert!(rt; told.ends_with(b"\n"), "mps_tool fly tells a line");
+    assert!(rt; status == ExitCode::from(2), "mps_tool fly ends with 2");
 }
 
 // `mps_tool --help` prints how the program is used, tells no fault, and ends with 0.
 #[test]
-fn tells_its_use(rt: HostRuntime) {
+fn help_is_printed_with_status_0(rt: HostRuntime) {
     let (printed, told, status) = called(rt.alloc(), &["mps_tool", "--help"], 1000);
-    assert!(rt; printed.ends_with(b"\n") && told.is_empty() && status == ExitCode::from(0));
+    assert!(rt; printed.ends_with(b"\n"), "mps_tool --help prints a line");
+    assert_eq!(rt; told.len(), 0, "the bytes that mps_tool --help tells");
+    assert!(rt; status == ExitCode::from(0), "mps_tool --help ends with 0");
 }
 
-// `run_file` and `check_file` on one machine print one after the other.
+// `mps_program::run_file` and `check_file` on one machine print one after the other.
 #[test]
-fn runs_and_shows(rt: HostRuntime) {
+fn two_files_are_printed_one_after_the_other(rt: HostRuntime) {
     let machine = Machine::new(rt.alloc(), FILES, 1000);
     let done = run_file(&machine, "relay", "script", false, false).is_ok()
         && check_file(&machine, "relay").is_ok();
     let (printed, _) = machine.output();
-    assert!(rt; done && printed.starts_with(b"done 1\n"));
-    assert!(rt; printed.ends_with(b"c : recv b int . end\n"));
+    assert!(rt; done, "run_file and check_file find no fault");
+    assert!(rt;
+        printed.starts_with(b"done 1\n"),
+        "what run_file prints comes first"
+    );
+    assert!(rt;
+        printed.ends_with(b"c : recv b int . end\n"),
+        "what check_file prints comes last"
+    );
 }

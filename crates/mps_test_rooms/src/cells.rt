@@ -2,13 +2,11 @@
 ghost use Rattle.std.specs.Prelude.{◌≡◌, false, IfOk, IfSome, All};
 ghost use Rattle.mps_cell.specs.Cells.{IsDealOf};
 
-use crate::numbers;
-use crate::numbers::are_numbered;
 use crate::texts::{TWO_PAIRS, VERDICT, asked, opened, told};
 use mps_base::{Name, Role, StepId, Value};
-use mps_cell::{Busy, Cell, Deal, Held, Leave, Pass, PassFault, Pause, meet};
+use mps_cell::{Busy, Cell, Deal, Leave, Pass, PassFault, Pause, meet};
 use mps_command::{Answer, Command, Forward};
-use mps_room::{Caller, Room};
+use mps_room::Room;
 use std::alloc::Global;
 use std::cmp::Ordering;
 use std::sync::Wait;
@@ -23,7 +21,7 @@ use std::time::{Clock, Duration};
 const SILENCE: &str = "roles a b c d e f g h ; end";
 
 // A cell of the protocol.
-fn cell(alloc: Global, protocol: &str) -> Result<Cell, Fail>
+pub(crate) fn cell(alloc: Global, protocol: &str) -> Result<Cell, Fail>
     ensures given { IfOk result (λ c. c.given ≡ false) }
 {
     let (names, session) = opened(alloc, protocol)?;
@@ -89,24 +87,24 @@ fn is_tried(alloc: Global, all: &mut [Pass<'_>], row: Row) -> Result<bool, Fail>
     Ok(told(alloc, &answer)?.as_str() == row.1)
 }
 
-// Whether each row is answered as it says, one after the other.
-fn are_called<R: Wait>(rt: &R, alloc: Global, all: &mut [Pass<'_>]) -> Result<bool, Fail> {
+// Each row is answered as it says, one after the other, or its line is the failure.
+fn are_called<R: Wait>(rt: &R, alloc: Global, all: &mut [Pass<'_>]) -> Result<(), Fail> {
     for row in UNDONE {
         if !is_called(rt, alloc, all, *row)? {
-            return Ok(false);
+            return Err(row.0.into());
         }
     }
-    Ok(true)
+    Ok(())
 }
 
 // The same by tries of a free cell.
-fn are_tried(alloc: Global, all: &mut [Pass<'_>]) -> Result<bool, Fail> {
+fn are_tried(alloc: Global, all: &mut [Pass<'_>]) -> Result<(), Fail> {
     for row in UNDONE {
         if !is_tried(alloc, all, *row)? {
-            return Ok(false);
+            return Err(row.0.into());
         }
     }
-    Ok(true)
+    Ok(())
 }
 
 // All passes of the cell.
@@ -117,22 +115,20 @@ fn passes(cell: &mut Cell) -> Result<Vec<Pass<'_>>, Fail> {
     }
 }
 
-// `Pass::call` is answered as a room answers after the calls before it, whichever passes made them.
+// `mps_cell::Pass::call` is answered as a room answers after the calls before it, whichever passes made them.
 #[test]
-fn answers_calls(rt: HostRuntime) -> Result<(), Fail> {
+fn a_call_is_answered_as_the_room_answers(rt: HostRuntime) -> Result<(), Fail> {
     let mut cell = cell(rt.alloc(), VERDICT)?;
     let mut all = passes(&mut cell)?;
-    assert!(rt; are_called(&rt, rt.alloc(), all.as_mut_slice())?);
-    Ok(())
+    are_called(&rt, rt.alloc(), all.as_mut_slice())
 }
 
-// `Pass::try_call` never finds the cell busy where no call is under way, and is answered as a call is.
+// `mps_cell::Pass::try_call` never finds the cell busy where no call is under way, and is answered as a call is.
 #[test]
-fn answers_tries_of_a_free_cell(rt: HostRuntime) -> Result<(), Fail> {
+fn a_try_of_a_free_cell_is_answered_as_a_call(rt: HostRuntime) -> Result<(), Fail> {
     let mut cell = cell(rt.alloc(), VERDICT)?;
     let mut all = passes(&mut cell)?;
-    assert!(rt; are_tried(rt.alloc(), all.as_mut_slice())?);
-    Ok(())
+    are_tried(rt.alloc(), all.as_mut_slice())
 }
 
 // ---- passes
@@ -164,13 +160,22 @@ fn has_given(cell: &mut Cell) -> bool {
     matches!(cell.passes(), Err(PassFault::Given))
 }
 
-// `Cell::passes` gives a pass for each of the four roles, in order, and ever after says that they were given.
+// `mps_cell::Cell::passes` gives a pass for each of the four roles, in order, and ever after says that they were given.
 #[test]
-fn gives_its_passes_once(rt: HostRuntime) -> Result<(), Fail> {
+fn a_cell_gives_its_passes_once(rt: HostRuntime) -> Result<(), Fail> {
     let mut cell = cell(rt.alloc(), TWO_PAIRS)?;
-    assert!(rt; gives_four(&mut cell));
-    assert!(rt; has_given(&mut cell));
-    assert!(rt; has_given(&mut cell));
+    assert!(rt;
+        gives_four(&mut cell),
+        "the first call gives four passes in order"
+    );
+    assert!(rt;
+        has_given(&mut cell),
+        "the second call says that they were given"
+    );
+    assert!(rt;
+        has_given(&mut cell),
+        "the third call says that they were given"
+    );
     Ok(())
 }
 
@@ -329,11 +334,15 @@ fn entries_after<R: Wait>(rt: &R, mut cell: Cell) -> Option<u64> {
     Some(cell.close_with(leave)?.entries())
 }
 
-// `meet` tells which pass has seen more: a after its call, neither after a look of c. The closed room has a's entry.
+// `mps_cell::meet` tells which pass has seen more: a after its call, neither after a look of c. The closed room has a's
+// entry.
 #[test]
-fn two_passes_meet(rt: HostRuntime) -> Result<(), Fail> {
+fn meet_tells_which_of_two_passes_has_seen_more(rt: HostRuntime) -> Result<(), Fail> {
     let cell = cell(rt.alloc(), TWO_PAIRS)?;
-    assert!(rt; entries_after(&rt, cell) == Some(1));
+    assert!(rt;
+        entries_after(&rt, cell) == Some(1),
+        "a's entry alone, once a has seen more than c, and then c as much"
+    );
     Ok(())
 }
 
@@ -424,11 +433,15 @@ fn is_found_out<R: Wait>(rt: &R, all: Vec<Pass<'_>>) -> bool {
     }
 }
 
-// While a's call has the room, c's `try_call` is busy, and neither it nor `front` waits: both tell the length, 0.
+// `mps_cell::Pass::try_call` of c is busy while a's call has the room, and neither it nor `front` waits: both tell the
+// length, 0.
 #[test]
-fn finds_the_room_out(rt: HostRuntime) -> Result<(), Fail> {
+fn a_try_and_a_look_do_not_wait_for_the_room(rt: HostRuntime) -> Result<(), Fail> {
     let mut cell = cell(rt.alloc(), TWO_PAIRS)?;
-    assert!(rt; is_found_out(&rt, passes(&mut cell)?));
+    assert!(rt;
+        is_found_out(&rt, passes(&mut cell)?),
+        "c finds the room out while a sends, and a is shown its message"
+    );
     Ok(())
 }
 
@@ -494,14 +507,17 @@ fn counts_at_home(cell: Cell) -> Option<(u64, usize, u64)> {
     }
 }
 
-// In one thread a sends and undoes 1,000 times, in another c marks and undoes as often. All is accepted: the one
-// journal has 4,000 entries, no step survives, and 2,000 numbers were given out.
+// `mps_cell::Pass::call` in two threads: a sends and undoes 1,000 times, c marks and undoes as often. All is accepted:
+// the one journal has 4,000 entries, no step survives, and 2,000 numbers were given out.
 #[test]
 fn two_threads_share_a_journal(rt: HostRuntime) -> Result<(), Fail> {
     let mut cell = cell(rt.alloc(), TWO_PAIRS)?;
     let done = both(&rt, passes(&mut cell)?);
-    assert!(rt; done == Some((true, true)));
-    assert!(rt; counts_at_home(cell) == Some((4000, 0, 2000)));
+    assert!(rt; done == Some((true, true)), "all are accepted");
+    assert!(rt;
+        counts_at_home(cell) == Some((4000, 0, 2000)),
+        "the entries, steps and numbers"
+    );
     Ok(())
 }
 
@@ -584,14 +600,20 @@ fn marked_by_all<R: Threads + Wait + Sync>(
     Some((shown, equal_pairs(cell, all)))
 }
 
-// Eight passes, each in a thread, do a step and its undo 1,000 times. All are shown the one journal of 16,000 entries,
-// so in each of their 28 pairs both have seen equally much.
+// `mps_cell::Pass::call` in eight threads, each with a pass that does a step and its undo 1,000 times. All are shown
+// the one journal of 16,000 entries, so in each of their 28 pairs both have seen equally much.
 #[test]
 fn eight_threads_share_a_journal(rt: HostRuntime) -> Result<(), Fail> {
     let mut cell = cell(rt.alloc(), SILENCE)?;
     let deal = cell.deal().ok_or("given")?;
-    assert!(rt; marked_by_all(&rt, &cell, deal, 16_000) == Some((8, 28)));
-    assert!(rt; counts_at_home(cell) == Some((16_000, 0, 8_000)));
+    assert!(rt;
+        marked_by_all(&rt, &cell, deal, 16_000) == Some((8, 28)),
+        "eight passes shown, 28 pairs alike"
+    );
+    assert!(rt;
+        counts_at_home(cell) == Some((16_000, 0, 8_000)),
+        "the entries, steps and numbers"
+    );
     Ok(())
 }
 
@@ -715,7 +737,8 @@ fn overlapped_after_a_send<R: Threads + Wait + Clock + Sync>(
     Some(overlapped(rt, a, c))
 }
 
-// While a has the room, c's try is busy, and tells the one entry that c hasn't seen. c's call is answered once a's is.
+// `mps_cell::Pass::call` of c is answered once a's is. While a has the room, c's try is busy, and tells the one entry
+// that c hasn't seen.
 #[test]
 fn a_call_waits_for_the_room(rt: HostRuntime) -> Result<(), Fail> {
     let mut cell = cell(rt.alloc(), TWO_PAIRS)?;
@@ -727,74 +750,13 @@ fn a_call_waits_for_the_room(rt: HostRuntime) -> Result<(), Fail> {
         number: Some(3),
         is_back: true,
     };
-    assert!(rt; found == Some((Some(2), Some(c))));
-    assert!(rt; counts_at_home(cell) == Some((3, 3, 3)));
-    Ok(())
-}
-
-// ---- numbered commands
-
-// A line with its number, what it comes to, and which number is the newest then, with its answer.
-const NUMBERED: &[numbers::Row<'static>] = &[
-    ("1 send b 1", "Fresh", 1, "done 1"),
-    ("1 send b 1", "Kept", 1, "done 1"),
-    ("3 mark m", "Wrong", 1, "done 1"),
-    ("0 mark m", "Wrong", 1, "done 1"),
-    ("2 undo 7", "Refused(NoStep)", 1, "done 1"),
-    ("2 mark m", "Fresh", 2, "done 2"),
-    ("1 mark m", "Wrong", 2, "done 2"),
-    ("3 undo 2", "Fresh", 3, "undone 2"),
-    ("3 mark m", "Kept", 3, "undone 2"),
-];
-
-// What the undo of step 1 is answered by a caller of any kind, where it has so many roles.
-fn undone_by_its_bound<C: Caller>(caller: &mut C, roles: usize) -> Option<Answer> {
-    if caller.roles().count() != roles {
-        return None;
-    }
-    Some(caller.call(Command::Undo(StepId::new(1))))
-}
-
-// Whether nothing is kept yet.
-fn is_fresh<C: Caller>(caller: &C) -> bool {
-    caller.last() == 0 && caller.kept().is_none()
-}
-
-// What an undo with no number is answered.
-fn undone_text<C: Caller>(alloc: Global, caller: &mut C) -> Result<String, Fail> {
-    match undone_by_its_bound(caller, 4) {
-        Some(answer) => told(alloc, &answer),
-        None => Err("four".into()),
-    }
-}
-
-// Whether the rows come to what they say, one after the other, and then an undo with no number.
-fn goes_by_numbers<R: Wait>(alloc: Global, caller: &mut Held<'_, '_, R>) -> Result<bool, Fail> {
-    are_numbered(alloc, caller, NUMBERED)?;
-    // the three accepted lines; the undo below has no number
-    Ok(
-        caller.pass.seen() == 3
-            && undone_text(alloc, caller)?.as_str() == "undone 1"
-            && caller.last() == 3,
-    )
-}
-
-// The pass of the first role, and what it waits by.
-fn first_waiting<'r, 'a, R: Wait>(rt: &'r R, cell: &'a mut Cell) -> Option<Held<'r, 'a, R>> {
-    let mut all = cell.passes().ok()?;
-    all.truncate(1);
-    Some(Held {
-        rt,
-        pass: all.pop()?,
-    })
-}
-
-// A pass calls a numbered command once (`Fresh`), keeps its answer (`Kept`), and calls no other number (`Wrong`).
-#[test]
-fn keeps_the_answer_to_a_number(rt: HostRuntime) -> Result<(), Fail> {
-    let mut cell = cell(rt.alloc(), TWO_PAIRS)?;
-    let mut caller = first_waiting(&rt, &mut cell).ok_or("a pass")?;
-    assert!(rt; is_fresh(&caller));
-    assert!(rt; goes_by_numbers(rt.alloc(), &mut caller)?);
+    assert!(rt;
+        found == Some((Some(2), Some(c))),
+        "what the call of a and that of c found"
+    );
+    assert!(rt;
+        counts_at_home(cell) == Some((3, 3, 3)),
+        "the entries, steps and numbers"
+    );
     Ok(())
 }

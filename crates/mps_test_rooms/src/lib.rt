@@ -4,6 +4,8 @@
 #[cfg(test)]
 mod cells;
 #[cfg(test)]
+mod numbered_passes;
+#[cfg(test)]
 mod numbers;
 #[cfg(test)]
 mod rooms;

@@ -5,16 +5,18 @@ use mps_command::{Answer, Command, StepIds};
 use mps_line::read_numbered;
 use mps_room::{Caller, Numbers, Position, Solo, Told, call_numbered};
 use std::alloc::Global;
+use std::process::Abort;
 use std::test::Fail;
 
-// Whether each of the numbers stands where its row says.
-fn stand(numbers: &Numbers, rows: &[(u64, Position)]) -> bool {
-    for row in rows {
-        if Position::of(numbers.last(), row.0) != row.1 {
-            return false;
-        }
+// Each of the numbers stands where its row says.
+fn stand(rt: &impl Abort, numbers: &Numbers, rows: &[(u64, Position)]) {
+    for (number, position) in rows {
+        let found = Position::of(numbers.last(), *number);
+        assert!(rt;
+            found == *position,
+            "the position of number {number}: {found:?} for {position:?}"
+        );
     }
-    true
 }
 
 // Numbers, and where they stand before any is accepted.
@@ -46,16 +48,21 @@ fn is_kept(alloc: Global, numbers: &Numbers) -> Result<bool, Fail> {
     }
 }
 
-// `Numbers` keeps the newest accepted number with its answer, and `Position::of` says which number may come next.
+// `mps_room::Numbers` keeps the newest accepted number with its answer, and `Position::of` says which number may come
+// next.
 #[test]
-fn keeps_the_newest_number(rt: HostRuntime) -> Result<(), Fail> {
+fn the_newest_number_is_kept_with_its_answer(rt: HostRuntime) -> Result<(), Fail> {
     let answer = undone(rt.alloc())?;
     let mut numbers = Numbers::new();
-    assert!(rt; numbers.last() == 0 && numbers.kept().is_none());
-    assert!(rt; stand(&numbers, AT_FIRST));
+    assert_eq!(rt; numbers.last(), 0, "the newest number at first");
+    assert!(rt; numbers.kept().is_none(), "no answer is kept at first");
+    stand(&rt, &numbers, AT_FIRST);
     numbers.keep(1, answer);
-    assert!(rt; stand(&numbers, AFTER_ONE));
-    assert!(rt; is_kept(rt.alloc(), &numbers)?);
+    stand(&rt, &numbers, AFTER_ONE);
+    assert!(rt;
+        is_kept(rt.alloc(), &numbers)?,
+        "`undone 7` is kept under the number 1"
+    );
     Ok(())
 }
 
@@ -64,7 +71,7 @@ fn numbered<C: Caller>(alloc: Global, caller: &mut C, line: &str) -> Result<Told
     let (number, change) = read_numbered(alloc, caller.roles(), line.as_bytes())?;
     let number = number.ok_or("a number")?;
     match change {
-        Command::News(_) | Command::Show => Err("a change".into()),
+        Command::News(_) | Command::Show => Err("a numbered command that changes something".into()),
         change => Ok(call_numbered(caller, number, change)),
     }
 }
@@ -86,26 +93,34 @@ fn kept_text<C: Caller>(alloc: Global, caller: &C) -> Result<String, Fail> {
 // A line with its number, what it comes to, and what is kept then, under which number.
 pub(crate) type Row<'a> = (&'a str, &'a str, u64, &'a str);
 
-// Whether the row comes to what it says.
-fn is_numbered<C: Caller>(alloc: Global, caller: &mut C, row: Row<'_>) -> Result<bool, Fail> {
-    let came = came_text(alloc, caller, row.0)?;
-    Ok(
-        came.as_str() == row.1
-            && caller.last() == row.2
-            && kept_text(alloc, caller)?.as_str() == row.3,
-    )
+// The row comes to what it says.
+fn is_numbered<A: Abort, C: Caller>(
+    rt: &A,
+    alloc: Global,
+    caller: &mut C,
+    row: Row<'_>,
+) -> Result<(), Fail> {
+    let (line, comes, last, keeps) = row;
+    let came = came_text(alloc, caller, line)?;
+    assert!(rt; came.as_str() == comes, "{line}: {came} for {comes}");
+    assert_eq!(rt; caller.last(), last, "the newest number after {line}");
+    let kept = kept_text(alloc, caller)?;
+    assert!(rt;
+        kept.as_str() == keeps,
+        "kept after {line}: {kept} for {keeps}"
+    );
+    Ok(())
 }
 
 // The rows come to what they say, one after the other.
-pub(crate) fn are_numbered<C: Caller>(
+pub(crate) fn are_numbered<A: Abort, C: Caller>(
+    rt: &A,
     alloc: Global,
     caller: &mut C,
     rows: &[Row<'_>],
 ) -> Result<(), Fail> {
     for row in rows {
-        if !is_numbered(alloc, caller, *row)? {
-            return Err(row.0.into());
-        }
+        is_numbered(rt, alloc, caller, *row)?;
     }
     Ok(())
 }
@@ -145,22 +160,22 @@ fn news<C: Caller>(alloc: Global, caller: &mut C) -> Result<String, Fail> {
     told(alloc, &caller.call(Command::News(0)))
 }
 
-// Whether the rows come to what they say, one after the other. Five of them are called and accepted, so there are five
-// entries, and no news, since nobody else took a step back.
-fn goes_by_numbers(alloc: Global, solo: &mut Solo) -> Result<bool, Fail> {
-    are_numbered(alloc, solo, NUMBERED)?;
-    Ok(
-        solo.room.entries() == 5
-            && news(alloc, solo)?.as_str() == "news 5"
-            && solo.last() == 5
-            && solo.roles().count() == 3,
-    )
+// The rows come to what they say, one after the other. Five of them are called and accepted, so there are five entries,
+// and no news, since nobody else took a step back.
+fn goes_by_numbers(rt: &impl Abort, alloc: Global, solo: &mut Solo) -> Result<(), Fail> {
+    are_numbered(rt, alloc, solo, NUMBERED)?;
+    assert_eq!(rt; solo.room.entries(), 5, "the count of entries");
+    let told = news(alloc, solo)?;
+    assert!(rt; told.as_str() == "news 5", "the news: {told} for news 5");
+    assert_eq!(rt; solo.last(), 5, "the newest number after the news");
+    assert_eq!(rt; solo.roles().count(), 3, "the count of roles");
+    Ok(())
 }
 
-// `call_numbered` calls a number's command once (`Fresh`), keeps its answer (`Kept`), and calls no other (`Wrong`).
+// `mps_room::call_numbered` calls a number's command once (`Fresh`), keeps its answer (`Kept`), and calls no other
+// (`Wrong`).
 #[test]
-fn calls_with_numbers(rt: HostRuntime) -> Result<(), Fail> {
+fn a_number_is_called_once_and_its_answer_kept(rt: HostRuntime) -> Result<(), Fail> {
     let mut solo = new_solo(rt.alloc())?;
-    assert!(rt; goes_by_numbers(rt.alloc(), &mut solo)?);
-    Ok(())
+    goes_by_numbers(&rt, rt.alloc(), &mut solo)
 }

@@ -84,13 +84,14 @@ fn answer_to(alloc: Global, room: &mut Room, line: &str) -> Result<Answer, Fail>
     answered(room, role, command)
 }
 
-// Whether the answer is the one that is wanted.
-fn is_wanted(alloc: Global, answer: &Answer, wanted: &str) -> Result<(), Fail> {
+// The answer is the one that the row wants, or the failure is its line with both.
+fn is_wanted(alloc: Global, answer: &Answer, row: Row) -> Result<(), Fail> {
+    let (line, wanted) = row;
     let text = told(alloc, answer)?;
     if text.as_str() == wanted {
         Ok(())
     } else {
-        Err(format!(in alloc; "{text}, and not {wanted}")?.into())
+        Err(format!(in alloc; "{line}: {text}, and not {wanted}")?.into())
     }
 }
 
@@ -102,7 +103,7 @@ fn accepts(answer: &Answer) -> bool {
 // Whether the row's line was accepted, which is answered as the row says.
 fn is_accepted(alloc: Global, room: &mut Room, row: Row) -> Result<bool, Fail> {
     let answer = answer_to(alloc, room, row.0)?;
-    is_wanted(alloc, &answer, row.1)?;
+    is_wanted(alloc, &answer, row)?;
     Ok(accepts(&answer))
 }
 
@@ -131,10 +132,10 @@ fn play_row(alloc: Global, room: &mut Room, row: Row) -> Result<(), Fail> {
     let before = room.entries();
     let accepted = is_accepted(alloc, room, row)?;
     if !is_kept(alloc, room, row, before, accepted)? {
-        return Err("another entry".into());
+        return Err(format!(in alloc; "another entry: {}", row.0)?.into());
     }
     if row.0.ends_with(" show") && !is_shown(alloc, room, row.1)? {
-        return Err("another value".into());
+        return Err(format!(in alloc; "another value: {}", row.0)?.into());
     }
     Ok(())
 }
@@ -257,9 +258,10 @@ const REFUSED: &[Row] = &[
     ("a undo 0", "refused nostep"),
 ];
 
-// `Room::apply` answers each line as its row says. What is accepted is the journal's next entry, and nothing else is.
+// `mps_room::Room::apply` answers each line as its row says. What is accepted is the journal's next entry, and nothing
+// else is.
 #[test]
-fn relays_and_tells_a_verdict(rt: HostRuntime) -> Result<(), Fail> {
+fn each_accepted_line_is_the_next_entry(rt: HostRuntime) -> Result<(), Fail> {
     for rows in [ROLLED_BACK, SETTLED, UNDONE, TOLD, REFUSED] {
         play_anew(rt.alloc(), VERDICT, rows)?;
     }
@@ -283,9 +285,9 @@ const MARKED: &[Row] = &[
     ("b news 4", "news 7"),
 ];
 
-// `Room::apply` keeps a return that takes nothing back as an entry too: `news` counts it.
+// `mps_room::Room::apply` keeps a return that takes nothing back as an entry too: `news` counts it.
 #[test]
-fn goes_back_to_a_mark(rt: HostRuntime) -> Result<(), Fail> {
+fn a_return_that_takes_nothing_back_is_an_entry(rt: HostRuntime) -> Result<(), Fail> {
     play_anew(rt.alloc(), TEXTS, MARKED)
 }
 
@@ -322,11 +324,11 @@ fn has_no_more(room: &Room) -> Result<bool, Fail> {
     Ok(room.entry(end)?.is_none() && room.command(end)?.is_none())
 }
 
-// The rows, of which each is accepted, are the journal's entries.
+// Whether the rows, of which each is accepted, are the journal's entries. One that isn't its entry is the failure.
 fn has_entries(alloc: Global, room: &Room, rows: &[Row]) -> Result<bool, Fail> {
     for (k, row) in rows.iter().enumerate() {
         if !is_at(alloc, room, k as u64, *row)? || !is_asked_at(alloc, room, k as u64, *row)? {
-            return Ok(false);
+            return Err(row.0.into());
         }
     }
     Ok(room.entries() == rows.len() as u64 && has_no_more(room)?)
@@ -338,11 +340,15 @@ fn keeps_each(alloc: Global, room: &mut Room) -> Result<bool, Fail> {
     has_entries(alloc, room, EACH_KIND)
 }
 
-// `Room::entry` gives each entry with its answer, and `Room::command` the command alone, as they were accepted.
+// `mps_room::Room::entry` gives each entry with its answer, and `Room::command` the command alone, as they were
+// accepted.
 #[test]
-fn keeps_each_kind_of_entry(rt: HostRuntime) -> Result<(), Fail> {
+fn each_kind_of_entry_is_kept_as_it_was_accepted(rt: HostRuntime) -> Result<(), Fail> {
     let mut room = room(rt.alloc(), EACH_SORT)?;
-    assert!(rt; keeps_each(rt.alloc(), &mut room)?);
+    assert!(rt;
+        keeps_each(rt.alloc(), &mut room)?,
+        "one entry for each row, and none after them"
+    );
     Ok(())
 }
 
@@ -367,7 +373,7 @@ fn mark_and_undo(room: &mut Room, times: u64) -> Result<(), Fail> {
 fn play_nearly_full(alloc: Global, room: &mut Room, rows: &[Row]) -> Result<(), Fail> {
     mark_and_undo(room, 49_999)?;
     if room.entries() != 99_998 {
-        return Err("entries".into());
+        return Err("99,998 entries".into());
     }
     play(alloc, room, rows)
 }
@@ -393,9 +399,10 @@ const FULL: &[Row] = &[
     ("a show", MARKS_SHOWN),
 ];
 
-// A journal has 100,000 entries at most (`MAX_ENTRIES`); then `Room::apply` refuses as full what it would accept.
+// `mps_room::Room::apply` refuses as full what it would accept, once the journal has 100,000 entries, the most
+// (`MAX_ENTRIES`).
 #[test]
-fn is_full_with_a_hundred_thousand_entries(rt: HostRuntime) -> Result<(), Fail> {
+fn a_journal_is_full_with_100_000_entries(rt: HostRuntime) -> Result<(), Fail> {
     let mut room = room(rt.alloc(), TWO_PAIRS)?;
     play_nearly_full(rt.alloc(), &mut room, FULL)
 }
@@ -412,9 +419,9 @@ const FULL_WITH_A_COMMIT: &[Row] = &[
     ("a news 0", "news 100000"),
 ];
 
-// In a full journal `Room::apply` names the commit that an undo, a rollback or a return would take back.
+// `mps_room::Room::apply` on a full journal names the commit that an undo, a rollback or a return would take back.
 #[test]
-fn names_a_commit_where_the_journal_is_full(rt: HostRuntime) -> Result<(), Fail> {
+fn a_full_journal_still_names_the_commit(rt: HostRuntime) -> Result<(), Fail> {
     let mut room = room(rt.alloc(), TWO_PAIRS)?;
     play_nearly_full(rt.alloc(), &mut room, FULL_WITH_A_COMMIT)
 }
@@ -443,13 +450,13 @@ fn answered_at_last(alloc: Global, room: &mut Room, line: &str) -> Result<Answer
 // The row is answered as it says, where memory may run out once.
 fn is_answered_at_last(alloc: Global, room: &mut Room, row: Row) -> Result<(), Fail> {
     let answer = answered_at_last(alloc, room, row.0)?;
-    is_wanted(alloc, &answer, row.1)
+    is_wanted(alloc, &answer, row)
 }
 
-// Where memory runs out for `Room::apply`, nothing has changed, and the line can be given again. That shows under `rt
-// try --test --fail-alloc` alone, which refuses a request for memory on the way.
+// `mps_room::Room::apply`: where memory runs out nothing has changed, and the line can be given again. That shows under
+// `rt try --test --fail-alloc` alone, which refuses a request for memory on the way.
 #[test]
-fn changes_nothing_for_want_of_memory(rt: HostRuntime) -> Result<(), Fail> {
+fn a_room_out_of_memory_has_not_changed(rt: HostRuntime) -> Result<(), Fail> {
     let mut room = room(rt.alloc(), VERDICT)?;
     for row in ROLLED_BACK {
         is_answered_at_last(rt.alloc(), &mut room, *row)?;
@@ -482,12 +489,21 @@ fn taken_back(room: &mut Room) -> Result<Option<usize>, Fail> {
     Ok(count_taken(&answer))
 }
 
-// A rollback of the first of 1,000 marks takes all back. That is entry 1,001, and no number more.
+// `mps_room::Room::apply`: a rollback of the first of 1,000 marks takes all back. That is entry 1,001, and no number
+// more.
 #[test]
-fn takes_back_a_thousand_steps(rt: HostRuntime) -> Result<(), Fail> {
+fn a_rollback_of_a_thousand_steps_is_one_entry(rt: HostRuntime) -> Result<(), Fail> {
     let mut room = marked(rt.alloc(), 1000)?;
-    assert_eq!(rt; taken_back(&mut room)?, Some(1000));
-    assert_eq!(rt; counts(&room), (1001, 0, 1000));
+    assert_eq!(rt;
+        taken_back(&mut room)?,
+        Some(1000),
+        "all 1,000 steps are taken back"
+    );
+    assert_eq!(rt;
+        counts(&room),
+        (1001, 0, 1000),
+        "the entries, steps and numbers"
+    );
     Ok(())
 }
 
@@ -516,11 +532,15 @@ const THOUSAND_SHOWN: usize = 2 * (3_293 + 1_099) + 1_100 * 17 + AROUND_THEM.len
 const AROUND_THEM: &str =
     r#"{"history":[],"queues":[],"roles":[{"expects":"send b int","past":[],"role":"a","store":[]},{"expects":"recv a int","past":[],"role":"b","store":[]}]}"#;
 
-// `show` as text and as value have the same length, that of 1,100 marks and what stands around them.
+// `mps_room::Room::show`: its text and its value have the same length, that of 1,100 marks and what stands around them.
 #[test]
-fn shows_a_thousand_steps(rt: HostRuntime) -> Result<(), Fail> {
+fn text_and_value_of_1_100_steps_are_equally_long(rt: HostRuntime) -> Result<(), Fail> {
     let mut room = marked(rt.alloc(), 1_100)?;
     let lengths = shown_lengths(rt.alloc(), &mut room)?;
-    assert_eq!(rt; lengths, (THOUSAND_SHOWN, THOUSAND_SHOWN));
+    assert_eq!(rt;
+        lengths,
+        (THOUSAND_SHOWN, THOUSAND_SHOWN),
+        "the length as text and as value"
+    );
     Ok(())
 }

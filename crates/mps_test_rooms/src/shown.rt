@@ -31,7 +31,7 @@ fn does(alloc: Global, names: &Roles, session: &mut Session, line: &str) -> Resu
     if role.index() < session.roles() && is_done(session, role, command) {
         Ok(())
     } else {
-        Err("it is refused".into())
+        Err(format!(in alloc; "{line} is refused")?.into())
     }
 }
 
@@ -65,10 +65,11 @@ fn is_written(alloc: Global, written: &str, wanted: &str) -> Result<(), Fail> {
 // Whether this is shown, after what was written before, and by the value too.
 fn shows(alloc: Global, names: &Roles, session: &Session, wanted: &str) -> Result<(), Fail> {
     is_written(alloc, written(alloc, names, session)?.as_str(), wanted)?;
-    if value_text(alloc, names, session)?.as_str() == wanted {
+    let value = value_text(alloc, names, session)?;
+    if value.as_str() == wanted {
         Ok(())
     } else {
-        Err("another value".into())
+        Err(format!(in alloc; "the value {value} for {wanted}")?.into())
     }
 }
 
@@ -117,9 +118,9 @@ const RELAY: &[Row] = &[
     ),
 ];
 
-// `write_show` and `show` give the history, what waits, and of each role what it expects, did and keeps.
+// `mps_show::write_show` and `show` give the history, what waits, and of each role what it expects, did and keeps.
 #[test]
-fn shows_a_relay(rt: HostRuntime) -> Result<(), Fail> {
+fn a_relay_is_shown_with_its_history_and_queues(rt: HostRuntime) -> Result<(), Fail> {
     plays_anew(rt.alloc(), VERDICT, RELAY)
 }
 
@@ -145,9 +146,9 @@ const TAKEN_BACK: &[Row] = &[
     ),
 ];
 
-// `write_show` and `show` show what replaying the surviving steps gives: nothing is left of those taken back.
+// `mps_show::write_show` and `show` show what replaying the surviving steps gives: nothing is left of those taken back.
 #[test]
-fn shows_what_is_left(rt: HostRuntime) -> Result<(), Fail> {
+fn steps_taken_back_are_not_shown(rt: HostRuntime) -> Result<(), Fail> {
     plays_anew(rt.alloc(), VERDICT, TAKEN_BACK)
 }
 
@@ -178,9 +179,10 @@ const EACH_SORT: &[Row] = &[
     ),
 ];
 
-// `write_show` and `show` show texts as strings, ints and bools as they are; slots in the order of first receipts.
+// `mps_show::write_show` and `show` show texts as strings, ints and bools as they are; slots in the order of first
+// receipts.
 #[test]
-fn shows_values_of_each_sort(rt: HostRuntime) -> Result<(), Fail> {
+fn values_of_each_sort_are_shown_as_json(rt: HostRuntime) -> Result<(), Fail> {
     plays_anew(rt.alloc(), SORTS, EACH_SORT)
 }
 
@@ -203,9 +205,10 @@ const LABELS: &[Row] = &[
     ),
 ];
 
-// In a queue a label is an object, so it differs from a text; in a step the verb tells them apart.
+// `mps_show::write_show` and `show`: in a queue a label is an object, so it differs from a text; in a step the verb
+// tells them apart.
 #[test]
-fn tells_labels_from_texts(rt: HostRuntime) -> Result<(), Fail> {
+fn a_label_is_shown_unlike_a_text(rt: HostRuntime) -> Result<(), Fail> {
     plays_anew(rt.alloc(), CHOICES, LABELS)
 }
 
@@ -268,9 +271,10 @@ const EIGHT: &[Row] = &[(
     r#"{"history":[[1,"c","send","b",3],[2,"a","send","h",1],[3,"a","send","c",2],[4,"g","mark","m"],[5,"b","send","a",4]],"queues":[["a","c",[2]],["a","h",[1]],["b","a",[4]],["c","b",[3]]],"roles":[{"expects":"end","past":[2,3],"role":"a","store":[]},{"expects":"end","past":[5],"role":"b","store":[]},{"expects":"end","past":[1],"role":"c","store":[]},{"expects":"end","past":[],"role":"d","store":[]},{"expects":"end","past":[],"role":"e","store":[]},{"expects":"end","past":[],"role":"f","store":[]},{"expects":"end","past":[4],"role":"g","store":[]},{"expects":"recv a bool","past":[],"role":"h","store":[]}]}"#,
 )];
 
-// `write_show` and `show` of the most roles, 8: each has its row, also if it did nothing, and queues have their order.
+// `mps_show::write_show` and `show` of the most roles, 8: each has its row, also if it did nothing, and queues have
+// their order.
 #[test]
-fn shows_eight_roles(rt: HostRuntime) -> Result<(), Fail> {
+fn each_of_eight_roles_is_shown(rt: HostRuntime) -> Result<(), Fail> {
     let alloc = rt.alloc();
     let mut session = Session::open(alloc, eight_types(alloc)?)?;
     plays(alloc, &eight_names(alloc)?, &mut session, EIGHT)

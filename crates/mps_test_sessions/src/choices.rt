@@ -88,8 +88,8 @@ pub(super) fn looping(rt: &(impl Abort + AllocGlobal)) -> Vec<Local> {
 // What a role is expected to do: the word for it, the peer, the sort and the labels.
 type Shown<'a> = (&'a str, u8, Option<Sort>, &'a [&'a str]);
 
-// Whether the session shows this for the role at that place.
-fn shows(rt: &impl Abort, session: &Session, place: u8, wanted: &Shown<'_>) -> bool {
+// The session shows this for the role at that place.
+fn shows(rt: &impl Abort, session: &Session, place: u8, wanted: &Shown<'_>) {
     // what an `Expect` may hold: the prover covers a function with one only where it names these
     let _held: Option<(Role, Sort, Name)> = None;
     let role = role_of(rt, session, place);
@@ -101,10 +101,13 @@ fn shows(rt: &impl Abort, session: &Session, place: u8, wanted: &Shown<'_>) -> b
         Expect::Select(peer, labels) => ("choose", peer, None, labels),
         Expect::Branch(peer, labels) => ("pick", peer, None, labels),
     };
-    word == wanted.0
-        && peer.is(Role::new(wanted.1))
-        && sort == wanted.2
-        && are_labels(labels, wanted.3)
+    assert!(rt;
+        word == wanted.0
+            && peer.is(Role::new(wanted.1))
+            && sort == wanted.2
+            && are_labels(labels, wanted.3),
+        "the role at place {place}: {word} {peer:?} {sort:?} {labels:?} for {wanted:?}"
+    );
 }
 
 // Lines with their answers: two turns of the loop, of which the second ends it. After `go` a has to receive first.
@@ -121,9 +124,9 @@ const ROUND: &[Line] = &[
     Keeps(A, "w", "\"good day\""),
 ];
 
-// `Session::forward` follows a type round its loop, and refuses with `Ended` once it is left.
+// `mps_session::Session::forward` follows a type round its loop, and refuses with `Ended` once it is left.
 #[test]
-fn goes_round_a_loop_to_its_end(rt: HostRuntime) {
+fn a_role_ends_once_it_has_left_its_loop(rt: HostRuntime) {
     let mut session = opened(&rt, looping(&rt));
     play(&rt, &mut session, ROUND);
 }
@@ -165,9 +168,10 @@ const NAMED: &[Line] = &[
     Moves("1 5; 2 5; 3 7; 4 7; 5 ok; 6 ok; 7 -; "),
 ];
 
-// `Session::forward` refuses with the violation that applies, the first of them, and a refusal changes nothing.
+// `mps_session::Session::forward` refuses with the violation that applies, the first of them, and a refusal changes
+// nothing.
 #[test]
-fn refuses_by_name(rt: HostRuntime) {
+fn a_refusal_names_the_first_violation(rt: HostRuntime) {
     let mut session = opened(&rt, verdict(&rt));
     play(&rt, &mut session, NAMED);
 }
@@ -189,22 +193,22 @@ const LAST: &[(u8, Shown<'static>)] = &[
 // The session shows each of these.
 fn shows_each(rt: &impl Abort, session: &Session, wanted: &[(u8, Shown<'_>)]) {
     for (place, shown) in wanted {
-        assert!(rt; shows(rt, session, *place, shown), "{place}");
+        shows(rt, session, *place, shown);
     }
 }
 
-// `Session::expect` shows what the role's type begins with, in a new session and after four steps.
+// `mps_session::Session::expect` shows what the role's type begins with, in a new session and after four steps.
 #[test]
-fn shows_what_a_role_may_do(rt: HostRuntime) {
+fn expect_shows_what_a_role_may_do_next(rt: HostRuntime) {
     let mut session = opened(&rt, verdict(&rt));
     shows_each(&rt, &session, FIRST);
     play(&rt, &mut session, RELAY);
     shows_each(&rt, &session, LAST);
 }
 
-// `Session::expect` shows what the unfolded type begins with: not the loop, but its choice.
+// `mps_session::Session::expect` shows what the unfolded type begins with: not the loop, but its choice.
 #[test]
-fn shows_what_the_body_of_a_loop_begins_with(rt: HostRuntime) {
+fn expect_shows_what_the_body_of_a_loop_begins_with(rt: HostRuntime) {
     let session = opened(&rt, looping(&rt));
     shows_each(&rt, &session, &[(A, ("choose", B, None, &["go", "stop"]))]);
 }
@@ -236,23 +240,25 @@ const LABEL_FOR_A_VALUE: &[Line] = &[
     Waits(A, B, 0, "ok"),
 ];
 
-// A pick of a value is refused as `Mismatch`, and the value still waits. With a protocol's types this can't happen.
+// `mps_session::Session::forward` refuses a pick of a value as `Mismatch`, and the value still waits. With a protocol's
+// types this can't happen.
 #[test]
-fn leaves_a_value_for_a_label(rt: HostRuntime) {
+fn a_value_that_is_picked_stays_in_the_queue(rt: HostRuntime) {
     let a = send(&rt, B, Sort::Int, Local::End);
     unfitting(&rt, a, picks(A, ok_or_no(&rt)), VALUE_FOR_A_LABEL);
 }
 
-// A pick of a label that no branch has is refused as `Mismatch`, and the label still waits.
+// `mps_session::Session::forward` refuses a pick of a label that no branch has as `Mismatch`, and the label still
+// waits.
 #[test]
-fn leaves_an_unknown_label(rt: HostRuntime) {
+fn a_label_of_no_branch_stays_in_the_queue(rt: HostRuntime) {
     let a = chooses(B, more(&rt, "maybe", Local::End, Branches::NoMore));
     unfitting(&rt, a, picks(A, ok_or_no(&rt)), UNKNOWN_LABEL);
 }
 
-// A receipt of a label is refused as `Mismatch`, and the label still waits.
+// `mps_session::Session::forward` refuses a receipt of a label as `Mismatch`, and the label still waits.
 #[test]
-fn leaves_a_label_for_a_value(rt: HostRuntime) {
+fn a_label_that_is_received_stays_in_the_queue(rt: HostRuntime) {
     let b = recv(&rt, A, Sort::Int, Local::End);
     unfitting(&rt, chooses(B, ok_or_no(&rt)), b, LABEL_FOR_A_VALUE);
 }
@@ -271,8 +277,7 @@ fn sixteen(rt: &(impl Abort + AllocGlobal)) -> Branches {
     branches
 }
 
-// The type of the role at that place, of eight: the last makes a choice of sixteen labels, and the
-// first takes it.
+// The type of the role at that place, of eight: the last makes a choice of sixteen labels, and the first takes it.
 fn wide_at(rt: &(impl Abort + AllocGlobal), place: u8) -> Local {
     match place {
         0 => picks(7, sixteen(rt)),
@@ -309,13 +314,14 @@ const SIXTEEN: &[&[Line]] = &[
 // The lines come out as they are wanted in a new session of the eight.
 fn plays_among_eight(rt: &(impl Abort + AllocGlobal), lines: &[Line]) {
     let mut session = opened(rt, wide(rt));
-    assert_eq!(rt; session.roles(), 8);
+    assert_eq!(rt; session.roles(), 8, "eight roles");
     play(rt, &mut session, lines);
 }
 
-// The most roles, 8, and the most labels, 16: the first, a middle and the last label are chosen and picked.
+// `mps_session::Session::forward` among the most roles, 8, with the most labels, 16: the first, a middle and the last
+// label are chosen and picked.
 #[test]
-fn chooses_among_sixteen_labels(rt: HostRuntime) {
+fn eight_roles_choose_among_sixteen_labels(rt: HostRuntime) {
     for lines in SIXTEEN {
         plays_among_eight(&rt, lines);
     }
@@ -348,9 +354,10 @@ pub(super) fn ask_often(
     }
 }
 
-// A session gives out 100,000 numbers (`MAX_NUMBERS`), and refuses further steps as `Full`, also after an undo.
+// `mps_session::Session::forward` gives out 100,000 numbers (`MAX_NUMBERS`), and refuses further steps as `Full`, also
+// after an undo.
 #[test]
-fn gives_out_a_hundred_thousand_numbers(rt: HostRuntime) {
+fn a_session_is_full_after_100_000_numbers(rt: HostRuntime) {
     let mut session = opened(&rt, looping(&rt));
     ask_often(&rt, &mut session, A, Ask::Mark("m"), 100_000);
     play(&rt, &mut session, FULL);
@@ -377,7 +384,7 @@ fn give(rt: &impl Abort, session: &mut Session, k: i64) {
     let value = Value::Int(k);
     assert!(rt;
         session.forward(role, Forward::Send { to, value }).is_ok(),
-        "{k}"
+        "the send of {k}"
     );
 }
 
@@ -389,7 +396,7 @@ fn keep(rt: &(impl Abort + AllocGlobal), session: &mut Session, k: i64) {
         session
             .forward(role, Forward::Receive { from, slot })
             .is_ok(),
-        "{k}"
+        "the receipt into slot s{k}"
     );
 }
 
@@ -407,18 +414,18 @@ fn is_filled(rt: &(impl Abort + AllocGlobal), session: &Session, k: i64) -> bool
     is_int(session.slot(role, &slot_name(rt, k)), k)
 }
 
-// `Session::slot` finds each of 1,000 slots of a role by its name, and none of a name that isn't bound.
+// `mps_session::Session::slot` finds each of 1,000 slots of a role by its name, and none of a name that isn't bound.
 #[test]
-fn finds_each_of_many_slots(rt: HostRuntime) {
+fn each_of_a_thousand_slots_is_found_by_name(rt: HostRuntime) {
     let mut session = opened(&rt, giving(&rt));
     for k in 0..1000i64 {
         give(&rt, &mut session, k);
         keep(&rt, &mut session, k);
     }
     for k in 0..1000i64 {
-        assert!(rt; is_filled(&rt, &session, k), "{k}");
+        assert!(rt; is_filled(&rt, &session, k), "slot s{k} of b has {k}");
     }
-    assert!(rt; !is_filled(&rt, &session, 1000));
+    assert!(rt; !is_filled(&rt, &session, 1000), "slot s1000 is not bound");
 }
 
 // As many inputs from the peer, and then one from that last one.
@@ -439,25 +446,29 @@ fn broad(rt: &(impl Abort + AllocGlobal), count: usize, last: u8) -> Local {
     chooses(B, branches)
 }
 
-// That comes of opening a session with the type and an end.
-fn opens_with_an_end(rt: &(impl Abort + AllocGlobal), t: Local, wanted: Opening) {
-    opens_so(rt, two(rt, t, Local::End), wanted);
+// That comes of opening a session with the type, of which this is said, and an end.
+fn opens_with_an_end(rt: &(impl Abort + AllocGlobal), what: &str, t: Local, wanted: Opening) {
+    opens_so(rt, what, two(rt, t, Local::End), wanted);
 }
 
-// At the end stands a peer of the session, the role itself, or no role of the session.
-const PEERS: &[(u8, Opening)] = &[
-    (B, Opening::Fault(A, LocalFault::TooManyNodes)),
-    (A, Opening::BadPeer(A)),
-    (C, Opening::BadPeer(A)),
+// At the end of a's type stands a peer of the session, b, the role itself, a, or no role of the session, c.
+const PEERS: &[(&str, u8, Opening)] = &[
+    (
+        "at the end of a's type b",
+        B,
+        Opening::Fault(A, LocalFault::TooManyNodes),
+    ),
+    ("at the end of a's type a", A, Opening::BadPeer(A)),
+    ("at the end of a's type c", C, Opening::BadPeer(A)),
 ];
 
-// A bad peer is told before the size of the type, however large that is: so many inputs, or branches, as would run the
-// stack out where a function calls itself for each.
+// `mps_session::Session::open` tells a bad peer before the size of the type, however large that is: so many inputs, or
+// branches, as would run the stack out where a function calls itself for each.
 #[test]
-fn refuses_types_over_the_limits(rt: HostRuntime) {
-    for (last, wanted) in PEERS {
-        opens_with_an_end(&rt, long(&rt, 1_000_000, B, *last), *wanted);
-        opens_with_an_end(&rt, broad(&rt, 100_000, *last), *wanted);
+fn a_bad_peer_is_told_before_the_size_of_a_type(rt: HostRuntime) {
+    for (what, last, wanted) in PEERS {
+        opens_with_an_end(&rt, what, long(&rt, 1_000_000, B, *last), *wanted);
+        opens_with_an_end(&rt, what, broad(&rt, 100_000, *last), *wanted);
     }
 }
 
@@ -484,41 +495,73 @@ fn with_nodes(rt: &(impl Abort + AllocGlobal), count: usize) -> Local {
     chooses(B, branches)
 }
 
-// `Session::open` takes a type of 256 nodes, the most, and names the fault of one more.
+// `mps_session::Session::open` takes a type of 256 nodes, the most, and names the fault of one more.
 #[test]
-fn opens_types_of_256_nodes(rt: HostRuntime) {
-    opens_with_an_end(&rt, with_nodes(&rt, 256), Opening::Opened);
+fn a_type_of_256_nodes_opens_and_one_more_is_a_fault(rt: HostRuntime) {
+    opens_with_an_end(&rt, "256 nodes", with_nodes(&rt, 256), Opening::Opened);
     let fault = Opening::Fault(A, LocalFault::TooManyNodes);
-    opens_with_an_end(&rt, with_nodes(&rt, 257), fault);
+    opens_with_an_end(&rt, "257 nodes", with_nodes(&rt, 257), fault);
 }
 
-// That comes of opening a session with these two types and an end.
-fn opens_of(rt: &(impl Abort + AllocGlobal), a: Local, b: Local, wanted: Opening) {
-    opens_so(rt, three(rt, a, b, Local::End), wanted);
+// That comes of opening a session with these two types, of which this is said, and an end.
+fn opens_of(rt: &(impl Abort + AllocGlobal), what: &str, a: Local, b: Local, wanted: Opening) {
+    opens_so(rt, what, three(rt, a, b, Local::End), wanted);
 }
 
-// `Session::open` tells a type's fault, and whose it is. Two kinds are tried here, all in mps_test_texts/local_faults.
+// `mps_session::Session::open` tells a type's fault, and whose it is. Two kinds are tried here, all in
+// mps_test_texts/local_faults.
 #[test]
-fn refuses_faulty_types(rt: HostRuntime) {
+fn a_fault_of_a_type_is_told_with_its_role(rt: HostRuntime) {
     let fault = Opening::Fault(B, LocalFault::Unguarded);
-    opens_of(&rt, Local::End, looped(&rt, again(&rt)), fault);
+    opens_of(
+        &rt,
+        "b with an unguarded loop",
+        Local::End,
+        looped(&rt, again(&rt)),
+        fault,
+    );
     let fault = Opening::Fault(B, LocalFault::NoBranches);
-    opens_of(&rt, Local::End, chooses(A, Branches::NoMore), fault);
+    opens_of(
+        &rt,
+        "b with no branches",
+        Local::End,
+        chooses(A, Branches::NoMore),
+        fault,
+    );
 }
 
-// Of two roles with a faulty type the least is told. a has 64 inputs and the end, 65 levels, one too many. Then it has
-// one less, and only b has a fault, a variable that no `rec` binds.
+// `mps_session::Session::open` tells the least of two roles with a faulty type. a has 64 inputs and the end, 65 levels,
+// one too many. Then it has one less, and only b has a fault, a variable that no `rec` binds.
 #[test]
-fn names_the_least_role(rt: HostRuntime) {
+fn the_least_role_with_a_faulty_type_is_told(rt: HostRuntime) {
     let first = Opening::Fault(A, LocalFault::TooDeep);
-    opens_of(&rt, long(&rt, 63, B, B), again(&rt), first);
+    opens_of(
+        &rt,
+        "a of 65 levels",
+        long(&rt, 63, B, B),
+        again(&rt),
+        first,
+    );
     let second = Opening::Fault(B, LocalFault::Unbound);
-    opens_of(&rt, long(&rt, 62, B, B), again(&rt), second);
+    opens_of(
+        &rt,
+        "a of 64 levels",
+        long(&rt, 62, B, B),
+        again(&rt),
+        second,
+    );
 }
 
-// A bad peer is told before a fault, though the fault is a lesser role's: of three roles none is at place 3.
+// `mps_session::Session::open` tells a bad peer before a fault, though the fault is a lesser role's: of three roles
+// none is at place 3.
 #[test]
-fn tells_strangers_before_faults(rt: HostRuntime) {
+fn a_bad_peer_is_told_before_a_fault(rt: HostRuntime) {
     let stranger = long(&rt, 0, A, 3);
-    opens_of(&rt, again(&rt), stranger, Opening::BadPeer(B));
+    opens_of(
+        &rt,
+        "a fault of a, and a peer of b at place 3",
+        again(&rt),
+        stranger,
+        Opening::BadPeer(B),
+    );
 }

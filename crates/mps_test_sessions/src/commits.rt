@@ -78,9 +78,10 @@ pub(super) fn play_giving(rt: &(impl Abort + AllocGlobal), lines: &[Line]) {
     play(rt, &mut session, lines);
 }
 
-// `rollback`, `back` and `undo` refuse with `Final` to take back a commit, and name the least. Other steps go as ever.
+// `mps_session::Session::rollback`, `back` and `undo` refuse with `Final` to take back a commit, and name the least.
+// Other steps go as ever.
 #[test]
-fn settles_what_was_given(rt: HostRuntime) {
+fn a_commit_is_never_taken_back(rt: HostRuntime) {
     play_giving(&rt, SETTLED);
     play_giving(&rt, AFTER_A_COMMIT);
     play_giving(&rt, THE_LEAST_IS_NAMED);
@@ -103,9 +104,10 @@ const AT_THE_END: &[Line] = &[
     RollsBack(A, 1, "Final 2"),
 ];
 
-// A commit makes final what it depends on, and nothing else. A role may commit when its part has ended.
+// `mps_session::Session::forward` of a commit makes final what it depends on, and nothing else. A role may commit when
+// its part has ended.
 #[test]
-fn commits_are_the_roles_own(rt: HostRuntime) {
+fn a_commit_makes_final_only_what_it_depends_on(rt: HostRuntime) {
     play_anew(&rt, TWO_PAIRS, A_STRANGERS);
     play_anew(&rt, TWO_PAIRS, AT_THE_END);
 }
@@ -134,11 +136,14 @@ fn would_be_final(rt: &impl Abort, session: &mut Session) -> bool {
     session.would(role, &Command::Rollback(StepId::new(1))) == Err(Refusal::Final { by })
 }
 
-// `Session::would` names the commit, and marks nothing: the rollback is refused as before.
+// `mps_session::Session::would` names the commit, and marks nothing: the rollback is refused as before.
 #[test]
-fn tells_of_a_commit_beforehand(rt: HostRuntime) {
+fn would_names_the_commit_and_changes_nothing(rt: HostRuntime) {
     let mut session = opened(&rt, types(&rt, A_TO_B_TO_C));
     play(&rt, &mut session, RELAYED);
-    assert!(rt; would_be_final(&rt, &mut session));
+    assert!(rt;
+        would_be_final(&rt, &mut session),
+        "would names the commit 5"
+    );
     play(&rt, &mut session, STILL_RELAYED);
 }

@@ -60,7 +60,7 @@ fn take(rt: &(impl Abort + AllocGlobal), session: &mut Session, turn: Turn)
 {
     let role = role_of(rt, session, taker(turn));
     let answer = session.serve(role, asked(rt, turn));
-    assert!(rt; is_taken(answer), "it is refused");
+    assert!(rt; is_taken(answer), "an answer is a refusal");
 }
 
 // The turns are taken, one after the other.
@@ -182,12 +182,12 @@ fn is_compared(rt: &(impl Abort + AllocGlobal), protocol: &Protocol, row: &Row) 
     are_same(rt, protocol, row.0, row.1) == row.2 && are_same(rt, protocol, row.1, row.0) == row.2
 }
 
-// `same` is true exactly where each role did the same, whatever the order across roles and the numbers.
+// `mps_session::same` is true exactly where each role did the same, whatever the order across roles and the numbers.
 #[test]
-fn compares_what_each_role_did(rt: HostRuntime) {
+fn sessions_are_the_same_where_each_role_did_the_same(rt: HostRuntime) {
     let protocol = two_pairs(&rt);
     for (place, row) in ROWS.iter().enumerate() {
-        assert!(rt; is_compared(&rt, &protocol, row), "row {place}");
+        assert!(rt; is_compared(&rt, &protocol, row), "row {place} (from 0)");
     }
 }
 
@@ -254,12 +254,15 @@ fn takes_back_at_last(
     are_back(answer)
 }
 
-// a rolls step 1 back, with 3 and 4, which depend on it. Memory for the answer is requested last: where a run refuses
-// it, as the README of mps_session says, nothing may have changed.
+// `mps_session::Session::rollback`: a rolls step 1 back, with 3 and 4, which depend on it. Memory for the answer is
+// requested last: where a run refuses it, as the README of mps_session says, nothing may have changed.
 #[test]
-fn rolls_back_after_a_refusal(rt: HostRuntime) {
+fn a_rollback_refused_for_memory_can_be_asked_again(rt: HostRuntime) {
     let turns = [SEND_5, BESIDE, TAKE, SAY_X, TAKE_BESIDE];
-    assert!(rt; takes_back_at_last(&rt, &two_pairs(&rt), &turns));
+    assert!(rt;
+        takes_back_at_last(&rt, &two_pairs(&rt), &turns),
+        "steps 4, 3 and 1 are taken back, and a refusal changes nothing"
+    );
 }
 
 // Why a may not roll its first step back. The session is then the same as one that never tried.
@@ -277,13 +280,15 @@ fn refused(
     refusal
 }
 
-// b's commit, step 3, depends on a's step 1: the rollback is refused, and the session is as if it was never asked.
+// `mps_session::Session::rollback`: b's commit, step 3, depends on a's step 1, so the rollback is refused, and the
+// session is as if it was never asked.
 #[test]
 fn a_refused_rollback_changes_nothing(rt: HostRuntime) {
     let turns = [SEND_5, TAKE, Does(B, COMMIT), SAY_X];
     let by = StepId::new(3);
     assert_eq!(rt;
         refused(&rt, &two_pairs(&rt), &turns),
-        Some(Refusal::Final { by })
+        Some(Refusal::Final { by }),
+        "the refusal of a's rollback"
     );
 }

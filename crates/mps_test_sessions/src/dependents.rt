@@ -61,11 +61,11 @@ fn add(rt: &(impl Abort + AllocGlobal), arena: &mut Arena, deed: Deed)
     let before = Before { at: 0, bound: None };
     let name = Name::read(b"x").expect(rt, "a name");
     let (Gives(role, _) | Takes(role, _) | Marks(role) | Commits(role)) = deed;
-    assert!(rt; role < 8);
+    assert!(rt; role < 8, "one of 8 roles");
     let role = Role::new(role);
     match deed {
         Gives(_, to) => {
-            assert!(rt; to < 8);
+            assert!(rt; to < 8, "one of 8 roles");
             let act = Act::Out {
                 to: Role::new(to),
                 message: Message::Label(name),
@@ -73,10 +73,10 @@ fn add(rt: &(impl Abort + AllocGlobal), arena: &mut Arena, deed: Deed)
             arena.add(role, act, before, None);
         }
         Takes(_, from) => {
-            assert!(rt; from < 8);
+            assert!(rt; from < 8, "one of 8 roles");
             let from = Role::new(from);
             let source = first_waiting(arena, from, role);
-            assert!(rt; source.is_some());
+            assert!(rt; source.is_some(), "a message waits");
             let act = Act::In { from, slot: None };
             arena.add(role, act, before, source);
         }
@@ -119,12 +119,12 @@ fn undo(rt: &(impl Abort + AllocGlobal), arena: &mut Arena, number: u64) -> Vec<
     let mut gone = Vec::new(rt.alloc());
     for _ in 0..count {
         marks_stay_closed();
-        assert!(rt; arena.len() > 0);
+        assert!(rt; arena.len() > 0, "a step is left");
         let key = newest_marked(arena).expect(rt, "a marked step");
         gone.push(arena.remove(key).id.number())
             .expect(rt, "memory");
     }
-    assert!(rt; newest_marked(arena).is_none());
+    assert!(rt; newest_marked(arena).is_none(), "no marked step is left");
     gone
 }
 
@@ -192,9 +192,9 @@ fn least_after(rt: &(impl Abort + AllocGlobal), deeds: &[Deed], number: u64) -> 
     }
 }
 
-// `least_dependent` finds the least number of another step that depends on this one.
+// `mps_links::least_dependent` finds the least number of another step that depends on this one.
 #[test]
-fn finds_the_least_dependent(rt: HostRuntime) {
+fn the_least_step_that_depends_is_found(rt: HostRuntime) {
     for (deeds, number, want) in LEAST {
         assert_eq!(&rt; least_after(&rt, deeds, *number), *want, "of {number}");
     }
@@ -225,12 +225,17 @@ fn removes(rt: &(impl Abort + AllocGlobal), deeds: &[Deed], number: u64, want: &
     let mut arena = play(rt, deeds);
     let gone = undo(rt, &mut arena, number);
     assert_eq!(rt; gone.as_slice(), want, "from {number}");
-    assert_eq!(rt; arena.len(), deeds.len().saturating_sub(gone.len()));
+    assert_eq!(rt;
+        arena.len(),
+        deeds.len().saturating_sub(gone.len()),
+        "what is left from {number}"
+    );
 }
 
-// `mark_from` marks just the step and all that depend on it. `newest_marked` gives them so that each can be removed.
+// `mps_links::mark_from` marks just the step and all that depend on it. `newest_marked` gives them so that each can be
+// removed.
 #[test]
-fn removes_what_depends_on_a_step(rt: HostRuntime) {
+fn just_the_step_and_what_depends_on_it_go(rt: HostRuntime) {
     for (deeds, number, want) in REMOVED {
         removes(&rt, deeds, *number, want);
     }
@@ -257,9 +262,9 @@ fn gone_unmarked(
     undo(rt, &mut arena, second)
 }
 
-// `unmark` takes all marks off: afterwards just the second step and what depends on it are marked and go.
+// `mps_links::unmark` takes all marks off: afterwards just the second step and what depends on it are marked and go.
 #[test]
-fn leaves_no_mark(rt: HostRuntime) {
+fn unmark_leaves_no_mark(rt: HostRuntime) {
     for (deeds, first, second, want) in UNMARKED {
         let gone = gone_unmarked(&rt, deeds, *first, *second);
         assert_eq!(&rt; gone.as_slice(), *want, "from {second}");
@@ -321,9 +326,10 @@ fn least_commit(rt: &(impl Abort + AllocGlobal), deeds: &[Deed], number: u64) ->
     least_from(rt, &mut arena, number)
 }
 
-// `least_final` finds the least number of a marked commit, where a step and all that depend on it are marked.
+// `mps_links::least_final` finds the least number of a marked commit, where a step and all that depend on it are
+// marked.
 #[test]
-fn finds_the_least_commit(rt: HostRuntime) {
+fn the_least_marked_commit_is_found(rt: HostRuntime) {
     for (deeds, number, want) in COMMITS {
         assert_eq!(&rt; least_commit(&rt, deeds, *number), *want, "from {number}");
     }
@@ -341,41 +347,45 @@ fn marks_at(rt: &(impl Abort + AllocGlobal), marked: u64, steps: u64) {
         add(rt, &mut arena, Marks(A));
     }
     let from = present(rt, &arena, 1001_u64.saturating_sub(marked));
-    assert_eq!(rt; mark_from(&mut arena, from) as u64, marked);
+    assert_eq!(rt;
+        mark_from(&mut arena, from) as u64,
+        marked,
+        "the count of marked steps"
+    );
 }
 
-// `mark_from` marks 10 steps, whatever the others are. `bench/marks` counts what it costs among 10,000.
+// `mps_links::mark_from` marks 10 steps, whatever the others are. `bench/marks` counts what it costs among 10,000.
 #[test]
-fn marks_10_of_10_000(rt: HostRuntime) {
+fn mark_from_marks_10_of_10_000(rt: HostRuntime) {
     marks_at(&rt, 10, 10_000);
 }
 
-// `mark_from` marks 100 steps, whatever the others are. `bench/marks` counts what it costs among 10,000.
+// `mps_links::mark_from` marks 100 steps, whatever the others are. `bench/marks` counts what it costs among 10,000.
 #[test]
-fn marks_100_of_10_000(rt: HostRuntime) {
+fn mark_from_marks_100_of_10_000(rt: HostRuntime) {
     marks_at(&rt, 100, 10_000);
 }
 
-// `mark_from` marks 1,000 steps, whatever the others are. `bench/marks` counts what it costs among 10,000.
+// `mps_links::mark_from` marks 1,000 steps, whatever the others are. `bench/marks` counts what it costs among 10,000.
 #[test]
-fn marks_1_000_of_10_000(rt: HostRuntime) {
+fn mark_from_marks_1_000_of_10_000(rt: HostRuntime) {
     marks_at(&rt, 1_000, 10_000);
 }
 
-// `mark_from` marks 10 steps, whatever the others are. `bench/marks` counts what it costs among 100,000.
+// `mps_links::mark_from` marks 10 steps, whatever the others are. `bench/marks` counts what it costs among 100,000.
 #[test]
-fn marks_10_of_100_000(rt: HostRuntime) {
+fn mark_from_marks_10_of_100_000(rt: HostRuntime) {
     marks_at(&rt, 10, 100_000);
 }
 
-// `mark_from` marks 100 steps, whatever the others are. `bench/marks` counts what it costs among 100,000.
+// `mps_links::mark_from` marks 100 steps, whatever the others are. `bench/marks` counts what it costs among 100,000.
 #[test]
-fn marks_100_of_100_000(rt: HostRuntime) {
+fn mark_from_marks_100_of_100_000(rt: HostRuntime) {
     marks_at(&rt, 100, 100_000);
 }
 
-// `mark_from` marks 1,000 steps, whatever the others are. `bench/marks` counts what it costs among 100,000.
+// `mps_links::mark_from` marks 1,000 steps, whatever the others are. `bench/marks` counts what it costs among 100,000.
 #[test]
-fn marks_1_000_of_100_000(rt: HostRuntime) {
+fn mark_from_marks_1_000_of_100_000(rt: HostRuntime) {
     marks_at(&rt, 1_000, 100_000);
 }

@@ -59,7 +59,7 @@ fn takes(
     wanted: Numbers,
 ) {
     let found = attempt(session, place, Command::Forward(command(rt, ask)));
-    assert_eq!(rt; found, Ok(wanted));
+    assert_eq!(rt; found, Ok(wanted), "the gist of a step");
 }
 
 // Five steps: a mark of a, the send from a to b, its receipt, and the send from b to c with its receipt.
@@ -97,41 +97,52 @@ fn relayed(rt: &(impl Abort + AllocGlobal)) -> Session {
     session
 }
 
-// `Session::attempt` gives the gist of each step, which `relayed` compares: receipts 3 and 5 name the sends 2 and 4.
+// `mps_session::Session::attempt` gives the gist of each step, which `relayed` compares: receipts 3 and 5 name the
+// sends 2 and 4.
 #[test]
-fn names_the_send_that_a_receipt_took(rt: HostRuntime) {
+fn the_gist_of_a_receipt_names_its_send(rt: HostRuntime) {
     relayed(&rt);
 }
 
-// The gist of an undo is the number of the step, 5.
+// `mps_session::Session::attempt`: the gist of an undo is the number of the step, 5.
 #[test]
-fn names_an_undone_step(rt: HostRuntime) {
+fn the_gist_of_an_undo_names_its_step(rt: HostRuntime) {
     let mut session = relayed(&rt);
     let found = attempt(&mut session, C, Command::Undo(StepId::new(5)));
-    assert_eq!(rt; found, Ok(Numbers::Undid(5)));
+    assert_eq!(rt; found, Ok(Numbers::Undid(5)), "the gist of the undo of 5");
 }
 
-// The gist of a rollback lists the steps, newest first: here 5, 4 and 3, so three of which the first is 5.
+// `mps_session::Session::attempt`: the gist of a rollback lists the steps, newest first. Here these are 5, 4 and 3, so
+// three of which the first is 5.
 #[test]
-fn lists_what_a_rollback_took(rt: HostRuntime) {
+fn the_gist_of_a_rollback_lists_the_steps_newest_first(rt: HostRuntime) {
     let mut session = relayed(&rt);
     let found = attempt(&mut session, B, Command::Rollback(StepId::new(3)));
-    assert_eq!(rt; found, Ok(Numbers::TookBack(3, 5)));
+    assert_eq!(rt;
+        found,
+        Ok(Numbers::TookBack(3, 5)),
+        "the gist of the rollback to 3"
+    );
 }
 
-// The gist of a return lists the steps, newest first: here 5, 4, 3 and 2, since the mark 1 stays.
+// `mps_session::Session::attempt`: the gist of a return lists the steps, newest first. Here these are 5, 4, 3 and 2,
+// since the mark 1 stays.
 #[test]
-fn lists_what_a_return_to_a_mark_took(rt: HostRuntime) {
+fn the_gist_of_a_return_leaves_the_mark(rt: HostRuntime) {
     let mut session = relayed(&rt);
     let found = attempt(&mut session, A, Command::Back(name(&rt, "m")));
-    assert_eq!(rt; found, Ok(Numbers::TookBack(4, 5)));
+    assert_eq!(rt;
+        found,
+        Ok(Numbers::TookBack(4, 5)),
+        "the gist of the return to mark 1"
+    );
 }
 
-// `Session::attempt` gives no gist of a refused command: step 3 received what step 2 sent.
+// `mps_session::Session::attempt` gives no gist of a refused command: step 3 received what step 2 sent.
 #[test]
-fn refuses_what_another_step_needs(rt: HostRuntime) {
+fn a_refused_command_has_no_gist(rt: HostRuntime) {
     let mut session = relayed(&rt);
     let found = attempt(&mut session, A, Command::Undo(StepId::new(2)));
     let by = StepId::new(3);
-    assert_eq!(rt; found, Err(Refusal::Needed { by }));
+    assert_eq!(rt; found, Err(Refusal::Needed { by }), "step 3 needs step 2");
 }

@@ -95,20 +95,26 @@ const LEFT: &[Line] = &[
 
 // The answer of the row of that place is the one that is wanted.
 fn is_answered(rt: &(impl Abort + AllocGlobal), answer: Answer, row: &Row) {
-    assert_eq!(rt; shown(rt, answer).as_str(), row.2);
+    assert_eq!(rt;
+        shown(rt, answer).as_str(),
+        row.2,
+        "the answer that wants {}",
+        row.2
+    );
 }
 
 // The answers are those that the rows want.
 fn are_answered(rt: &(impl Abort + AllocGlobal), answers: Vec<Answer>, rows: &[Row]) {
-    assert_eq!(rt; answers.len(), rows.len());
+    assert_eq!(rt; answers.len(), rows.len(), "an answer for each row");
     for (answer, row) in answers.into_iter().zip(rows) {
         is_answered(rt, answer, row);
     }
 }
 
-// `Session::serve_all` answers each request of a list as it is due after those before it, and leaves what they lead to.
+// `mps_session::Session::serve_all` answers each request of a list as it is due after those before it, and leaves what
+// they lead to.
 #[test]
-fn serves_a_list(rt: HostRuntime) {
+fn each_request_is_answered_after_those_before_it(rt: HostRuntime) {
     let mut session = opened(&rt, types(&rt, A_TO_B_TO_C));
     let requests = requests(&rt, &session, TEN_AND_MORE);
     let answers = session.serve_all(requests).expect(&rt, "memory");
@@ -148,12 +154,12 @@ fn marks_and_undos(
 // No step, but the numbers of 500 marks.
 const MARKED_AND_UNDONE: &[Line] = &[Count(0, 500), Moves("")];
 
-// 500 marks, each undone by the next request: a list may be long.
+// `mps_session::Session::serve_all` takes long lists: 1,000 requests are 500 marks, each undone by the next request.
 #[test]
-fn serves_a_thousand_requests(rt: HostRuntime) {
+fn a_list_of_a_thousand_requests_is_served(rt: HostRuntime) {
     let mut session = opened(&rt, types(&rt, A_TO_B_TO_C));
     let requests = marks_and_undos(&rt, &session, 1_000);
     let answers = session.serve_all(requests).expect(&rt, "memory");
-    assert_eq!(rt; answers.len(), 1_000);
+    assert_eq!(rt; answers.len(), 1_000, "an answer for each request");
     play(&rt, &mut session, MARKED_AND_UNDONE);
 }

@@ -230,7 +230,7 @@ const C: u8 = 2;
 fn plays(rt: &(impl Abort + AllocGlobal), log: &mut Log, first: u64, rows: &[Row]) {
     for (row, want) in rows.iter().zip(first..) {
         let id = play(rt, log, row.0, row.1, row.2).expect(rt, "it joins");
-        assert_eq!(rt; id.number(), want);
+        assert_eq!(rt; id.number(), want, "the number of step {want}");
     }
 }
 
@@ -329,7 +329,11 @@ fn take_all_out(rt: &impl Abort, log: &mut Log, ids: &[u64]) {
     for id in ids {
         let key = log.steps().by_id(StepId::new(*id)).expect(rt, "a key");
         let gone = remove(log, key).expect(rt, "it may go");
-        assert_eq!(rt; gone.number(), *id);
+        assert_eq!(rt;
+            gone.number(),
+            *id,
+            "the number of the step that goes, {id}"
+        );
     }
 }
 
@@ -412,8 +416,15 @@ fn is_as_worked(rt: &impl Abort, log: &Log) {
     let arena = log.steps();
     are_linked(rt, arena, WORKED_LINKS);
     are_rows(rt, arena, 1, WORKED);
-    assert!(rt; has_ends(arena, [1, 9], [9, 7, 8, 0], [9, 7, 4, 0, 0]));
-    assert_eq!(rt; (arena.len(), arena.issued()), (9, 9));
+    assert!(rt;
+        has_ends(arena, [1, 9], [9, 7, 8, 0], [9, 7, 4, 0, 0]),
+        "the ends of nine steps"
+    );
+    assert_eq!(rt;
+        (arena.len(), arena.issued()),
+        (9, 9),
+        "nine steps and numbers"
+    );
     none_may_go(rt, log, &[1, 2, 3, 4, 5, 6]);
 }
 
@@ -421,8 +432,15 @@ fn is_as_worked(rt: &impl Abort, log: &Log) {
 fn is_as_left(rt: &impl Abort, log: &Log) {
     let arena = log.steps();
     are_linked(rt, arena, LEFT_LINKS);
-    assert!(rt; has_ends(arena, [1, 5], [4, 3, 5, 0], [2, 0, 4, 0, 0]));
-    assert_eq!(rt; (arena.len(), arena.issued()), (5, 9));
+    assert!(rt;
+        has_ends(arena, [1, 5], [4, 3, 5, 0], [2, 0, 4, 0, 0]),
+        "the ends once four are gone"
+    );
+    assert_eq!(rt;
+        (arena.len(), arena.issued()),
+        (5, 9),
+        "five steps, nine numbers"
+    );
     none_may_go(rt, log, &[1, 2]);
 }
 
@@ -431,15 +449,26 @@ fn is_as_more(rt: &impl Abort, log: &Log) {
     let arena = log.steps();
     are_linked(rt, arena, MORE_LINKS);
     are_rows(rt, arena, 10, MORE);
-    assert!(rt; has_ends(arena, [1, 11], [11, 10, 5, 0], [11, 0, 4, 0, 0]));
-    assert_eq!(rt; (arena.len(), arena.issued()), (7, 11));
+    assert!(rt;
+        has_ends(arena, [1, 11], [11, 10, 5, 0], [11, 0, 4, 0, 0]),
+        "the ends after two more"
+    );
+    assert_eq!(rt;
+        (arena.len(), arena.issued()),
+        (7, 11),
+        "seven steps, eleven numbers"
+    );
 }
 
-// Steps with links are an ordered list: as steps come and go, look-ups of mps_arena give what was worked out by hand.
+// `mps_log::Log` keeps steps with links as an ordered list: as steps come and go, look-ups of mps_arena give what was
+// worked out by hand.
 #[test]
-fn links_of_a_worked_history(rt: HostRuntime) {
+fn links_follow_as_steps_come_and_go(rt: HostRuntime) {
     let mut log = empty(&rt);
-    assert!(rt; has_ends(log.steps(), [0, 0], [0, 0, 0, 0], [0, 0, 0, 0, 0]));
+    assert!(rt;
+        has_ends(log.steps(), [0, 0], [0, 0, 0, 0], [0, 0, 0, 0, 0]),
+        "no ends at first"
+    );
     plays(&rt, &mut log, 1, WORKED);
     is_as_worked(&rt, &log);
     take_all_out(&rt, &mut log, &[7, 9, 6, 8]);
@@ -458,23 +487,37 @@ fn keeps(rt: &impl Abort, log: &Log, place: u8, slot: Word, given: Option<Deed>)
     is_kept(log.value(role(place), &name(rt, slot)), given)
 }
 
-// `Log::message` gives what waits in the order of the sends, 0 first. Each receipt takes the first, and binds its slot.
+// `mps_log::Log::message` gives what waits in the order of the sends, 0 first. Each receipt takes the first, and binds
+// its slot.
 #[test]
-fn a_thousand_messages_in_order(rt: HostRuntime) {
+fn messages_wait_in_the_order_of_their_sends(rt: HostRuntime) {
     let mut log = empty(&rt);
     for n in 0..1000i64 {
         play(&rt, &mut log, A, Send(B, n), 0).expect(&rt, "it joins");
     }
-    assert!(rt; waits_at(&log, A, B, 0, 0) && waits_at(&log, A, B, 999, 999));
-    assert!(rt; log.message(role(A), role(B), 1000).is_none());
+    assert!(rt;
+        waits_at(&log, A, B, 0, 0) && waits_at(&log, A, B, 999, 999),
+        "messages 0 and 999"
+    );
+    assert!(rt;
+        log.message(role(A), role(B), 1000).is_none(),
+        "no message 1000"
+    );
     for n in 0..1000i64 {
         assert!(rt; waits_at(&log, A, B, 0, n), "message {n}");
         play(&rt, &mut log, B, Receive(A, Word::X), 0).expect(&rt, "it joins");
         assert!(rt; keeps(&rt, &log, B, Word::X, Some(Send(B, n))), "value {n}");
     }
-    assert!(rt; log.message(role(A), role(B), 0).is_none());
+    assert!(rt;
+        log.message(role(A), role(B), 0).is_none(),
+        "no message is left"
+    );
     // of each message a send and a receipt
-    assert_eq!(rt; (log.steps().len(), log.steps().issued()), (2000, 2000));
+    assert_eq!(rt;
+        (log.steps().len(), log.steps().issued()),
+        (2000, 2000),
+        "two steps for each message"
+    );
 }
 
 // Three messages, an int, a text and an int, and three receipts into one slot, each bound before by the one before it.
@@ -497,13 +540,17 @@ fn gives_back(rt: &impl Abort, log: &mut Log, id: u64, message: Option<Deed>, ke
     assert!(rt; keeps(rt, log, B, Word::X, kept), "after {id}");
 }
 
-// `Log::remove` of the receipts, 6 to 4: the message waits again, in front, and the slot has what it had before.
+// `mps_log::Log::remove` of the receipts, 6 to 4: the message waits again, in front, and the slot has what it had
+// before.
 #[test]
-fn a_slot_bound_thrice(rt: HostRuntime) {
+fn a_slot_gets_back_what_it_had_before(rt: HostRuntime) {
     let mut log = empty(&rt);
     plays(&rt, &mut log, 1, THRICE);
     are_rows(&rt, log.steps(), 1, THRICE);
-    assert!(rt; keeps(&rt, &log, B, Word::X, Some(Send(B, 3))));
+    assert!(rt;
+        keeps(&rt, &log, B, Word::X, Some(Send(B, 3))),
+        "x keeps the third message"
+    );
     gives_back(&rt, &mut log, 6, Some(Send(B, 3)), Some(Tell(B, Word::No)));
     gives_back(&rt, &mut log, 5, Some(Tell(B, Word::No)), Some(Send(B, 1)));
     gives_back(&rt, &mut log, 4, Some(Send(B, 1)), None);
@@ -521,9 +568,10 @@ const SAID: &[Row] = &[
     Row(B, Receive(A, Word::Z), 0, 0),
 ];
 
-// `Log::message` and `Log::value` give texts and labels as they were given. A label in a slot, here in z, is no value.
+// `mps_log::Log::message` and `Log::value` give texts and labels as they were given. A label in a slot, here in z, is
+// no value.
 #[test]
-fn texts_and_labels(rt: HostRuntime) {
+fn texts_and_labels_are_kept_as_they_were_given(rt: HostRuntime) {
     let mut log = empty(&rt);
     plays(&rt, &mut log, 1, &SAID[..4]);
     for (row, k) in SAID[..4].iter().zip(0..) {
@@ -534,9 +582,18 @@ fn texts_and_labels(rt: HostRuntime) {
     }
     plays(&rt, &mut log, 5, &SAID[4..]);
     are_rows(&rt, log.steps(), 1, SAID);
-    assert!(rt; keeps(&rt, &log, B, Word::X, Some(Tell(B, Word::SoBeIt))));
-    assert!(rt; keeps(&rt, &log, B, Word::Y, Some(Tell(B, Word::Empty))));
-    assert!(rt; keeps(&rt, &log, B, Word::Z, None));
+    assert!(rt;
+        keeps(&rt, &log, B, Word::X, Some(Tell(B, Word::SoBeIt))),
+        "the text in x"
+    );
+    assert!(rt;
+        keeps(&rt, &log, B, Word::Y, Some(Tell(B, Word::Empty))),
+        "the empty text in y"
+    );
+    assert!(rt;
+        keeps(&rt, &log, B, Word::Z, None),
+        "a label in z is no value"
+    );
 }
 
 // The pair's number.
@@ -559,9 +616,9 @@ fn crosses(rt: &(impl Abort + AllocGlobal), log: &mut Log, from: u8, to: u8) {
     );
 }
 
-// Each of the 64 ordered pairs of 8 roles, a role with itself too, has a queue of its own.
+// `mps_log::Log::message`: each of the 64 ordered pairs of 8 roles, a role with itself too, has a queue of its own.
 #[test]
-fn each_pair_of_eight_roles(rt: HostRuntime) {
+fn each_pair_of_roles_has_its_own_queue(rt: HostRuntime) {
     let mut log = empty(&rt);
     for pair in 0..64u8 {
         let (from, to) = (pair / 8, pair % 8);
@@ -571,12 +628,17 @@ fn each_pair_of_eight_roles(rt: HostRuntime) {
         crosses(&rt, &mut log, pair / 8, pair % 8);
     }
     // of each pair a send and a receipt
-    assert_eq!(rt; log.steps().len(), 128);
+    assert_eq!(rt;
+        log.steps().len(),
+        128,
+        "a send and a receipt of each of 64 pairs"
+    );
 }
 
-// 100 steps come and go, one by one: each is kept at the same place (its key), and each has a number of its own.
+// `mps_log::Log` and its `Arena`: 100 steps come and go, one by one. Each is kept at the same place (its key), and has
+// a number of its own.
 #[test]
-fn numbers_are_not_used_again(rt: HostRuntime) {
+fn a_number_is_never_given_out_again(rt: HostRuntime) {
     let mut log = empty(&rt);
     let mut place = None;
     for id in 1..=100u64 {
@@ -587,10 +649,14 @@ fn numbers_are_not_used_again(rt: HostRuntime) {
             "the place of {id} is used again"
         );
         place = key;
-        assert_eq!(rt; known(log.steps()), 1);
+        assert_eq!(rt; known(log.steps()), 1, "step {id} alone is known");
         take_all_out(&rt, &mut log, &[id]);
     }
-    assert_eq!(rt; (log.steps().len(), log.steps().issued()), (0, 100));
+    assert_eq!(rt;
+        (log.steps().len(), log.steps().issued()),
+        (0, 100),
+        "no step, 100 numbers"
+    );
 }
 
 // A mark of role A, put into the arena under the next number.
@@ -599,8 +665,8 @@ fn noted(rt: &impl Abort, arena: &mut Arena, id: u64) -> Key {
     let act = Act::Mark(name(rt, Word::X));
     let before = Before { at: 0, bound: None };
     let added = arena.add(role(A), act, before, None);
-    assert_eq!(rt; added, StepId::new(id));
-    assert_eq!(rt; arena.by_id(added), Some(key));
+    assert_eq!(rt; added, StepId::new(id), "the number of mark {id}");
+    assert_eq!(rt; arena.by_id(added), Some(key), "the key of mark {id}");
     key
 }
 
@@ -609,15 +675,22 @@ fn is_marked(arena: &Arena, key: Key) -> bool {
     matches!(found(arena, key), Some((_, _, true)))
 }
 
-// `Arena::set_mark` marks one step, as a rollback marks what it takes. These are not the marks that roles leave.
+// `mps_arena::Arena::set_mark` marks one step, as a rollback marks what it takes. These are not the marks that roles
+// leave.
 #[test]
-fn marks_come_and_go(rt: HostRuntime) {
+fn set_mark_marks_one_step_alone(rt: HostRuntime) {
     let mut arena = Arena::new(rt.alloc());
     let first = noted(&rt, &mut arena, 1);
     let second = noted(&rt, &mut arena, 2);
     arena.set_mark(first, true);
-    assert!(rt; is_marked(&arena, first) && !is_marked(&arena, second));
+    assert!(rt;
+        is_marked(&arena, first) && !is_marked(&arena, second),
+        "the first mark alone"
+    );
     arena.set_mark(second, true);
     arena.set_mark(first, false);
-    assert!(rt; !is_marked(&arena, first) && is_marked(&arena, second));
+    assert!(rt;
+        !is_marked(&arena, first) && is_marked(&arena, second),
+        "the second mark alone"
+    );
 }

@@ -84,7 +84,7 @@ fn fault(rt: &(impl Abort + AllocGlobal), letters: &[&str], body: Global) -> Opt
 fn plays(rt: &(impl Abort + AllocGlobal), letters: &[&str], body: Global, lines: &[Line]) {
     let protocol = protocol(rt, letters, body);
     let mut session = open_protocol(rt.alloc(), &protocol).expect(rt, "a session");
-    assert_eq!(rt; session.roles(), letters.len());
+    assert_eq!(rt; session.roles(), letters.len(), "a role for each name");
     play(rt, &mut session, lines);
 }
 
@@ -104,9 +104,10 @@ const RELAYED: &[Line] = &[
     Asks(A, Ask::Pick(C), "6 ok"),
 ];
 
-// `open_protocol` gives a new session in which each role's type is its projection: it can do its part to the end.
+// `mps_session::open_protocol` gives a new session in which each role's type is its projection: it can do its part to
+// the end.
 #[test]
-fn opens_a_protocol(rt: HostRuntime) {
+fn each_role_of_an_opened_protocol_can_reach_its_end(rt: HostRuntime) {
     plays(&rt, &["a", "b", "c"], relay(&rt), RELAYED);
 }
 
@@ -131,9 +132,10 @@ const LOOPED: &[Line] = &[
     Asks(B, Ask::Pick(A), "Ended"),
 ];
 
-// `open_protocol` gives a session of the most roles, 8, of which six take no part in the loop of the others.
+// `mps_session::open_protocol` gives a session of the most roles, 8, of which six take no part in the loop of the
+// others.
 #[test]
-fn opens_a_loop_of_eight_roles(rt: HostRuntime) {
+fn a_loop_of_two_among_eight_roles_opens(rt: HostRuntime) {
     plays(&rt, EIGHT, looping(&rt), LOOPED);
 }
 
@@ -141,7 +143,11 @@ fn opens_a_loop_of_eight_roles(rt: HostRuntime) {
 fn is_unmergeable(rt: &(impl Abort + AllocGlobal), body: Global, choice: usize) {
     let role = Role::new(C);
     let found = fault(rt, &["a", "b", "c"], body);
-    assert_eq!(rt; found, Some(ProtocolFault::Unmergeable { role, choice }));
+    assert_eq!(rt;
+        found,
+        Some(ProtocolFault::Unmergeable { role, choice }),
+        "at choice {choice}"
+    );
 }
 
 // An int from a to c behind the last of two labels, which a tells b.
@@ -157,10 +163,10 @@ fn told_behind_two(rt: &(impl Abort + AllocGlobal)) -> Global {
     choice(rt, "a", "b", &["r", "l"], inner)
 }
 
-// The branches differ for c, which takes no part in the choice: at one, it gets an int. Choices are counted in preorder
-// from 0. Of one that fails in another, the inner one is named.
+// `mps_session::open_protocol` names branches that differ for c, which takes no part in the choice: at one, it gets an
+// int. Choices are counted in preorder from 0. Of one that fails in another, the inner one is named.
 #[test]
-fn names_what_cannot_be_merged(rt: HostRuntime) {
+fn branches_that_differ_are_named_by_role_and_choice(rt: HostRuntime) {
     is_unmergeable(&rt, told_to_one(&rt), 0);
     is_unmergeable(&rt, told_behind_two(&rt), 1);
 }
@@ -205,22 +211,35 @@ const FAULTS: &[GlobalFault] = &[
     GlobalFault::Unguarded,
 ];
 
-// `open_protocol` names a protocol's fault, here seven of the twelve. `protocols` of mps_test_texts has all of them.
+// `mps_session::open_protocol` names a protocol's fault, here seven of the twelve. `protocols` of mps_test_texts has
+// all of them.
 #[test]
-fn names_the_fault(rt: HostRuntime) {
+fn the_fault_of_a_protocol_is_named(rt: HostRuntime) {
     for wanted in FAULTS {
         let found = fault(&rt, &["a", "b"], faulty(&rt, *wanted));
-        assert_eq!(rt; found, Some(ProtocolFault::Global(*wanted)));
+        assert_eq!(rt;
+            found,
+            Some(ProtocolFault::Global(*wanted)),
+            "a protocol with {wanted:?}"
+        );
     }
 }
 
-// Of several faults the first is named: an unknown role before a message to itself and a variable without a `rec`. Two
-// roles of one name are a fault of the roles.
+// `mps_session::open_protocol` names the first of several faults: an unknown role before a message to itself and a
+// variable without a `rec`. Two roles of one name are a fault of the roles.
 #[test]
-fn names_the_first_fault(rt: HostRuntime) {
+fn of_several_faults_the_first_is_named(rt: HostRuntime) {
     let unknown = ProtocolFault::Global(GlobalFault::UnknownRole);
     let body = int(&rt, "z", "z", again(&rt));
-    assert_eq!(rt; fault(&rt, &["a", "b"], body), Some(unknown));
+    assert_eq!(rt;
+        fault(&rt, &["a", "b"], body),
+        Some(unknown),
+        "an unknown role comes first"
+    );
     let double = ProtocolFault::Global(GlobalFault::DoubleRole);
-    assert_eq!(rt; fault(&rt, &["a", "a"], Global::End), Some(double));
+    assert_eq!(rt;
+        fault(&rt, &["a", "a"], Global::End),
+        Some(double),
+        "one name for two roles"
+    );
 }

@@ -54,9 +54,9 @@ const WHOSE: &[Line] = &[
 // What is played where a gives b an int, and b one to c.
 const RELAYED: &[&[Line]] = &[ALL, ALL_BUT_THE_SEND, WHOSE];
 
-// `Session::rollback` removes just the step and all that depend on it, newest first, or says why not.
+// `mps_session::Session::rollback` removes just the step and all that depend on it, newest first, or says why not.
 #[test]
-fn rolls_back_in_a_relay(rt: HostRuntime) {
+fn a_rollback_takes_just_the_step_and_what_depends_on_it(rt: HostRuntime) {
     for lines in RELAYED {
         play_anew(&rt, A_TO_B_TO_C, lines);
     }
@@ -81,9 +81,10 @@ const STRANGERS_STAY: &[Line] = &[
     Keeps(D, "y", "2"),
 ];
 
-// `Session::rollback` leaves steps that don't depend on the one taken back, also those with numbers in between.
+// `mps_session::Session::rollback` leaves steps that don't depend on the one taken back, also those with numbers in
+// between.
 #[test]
-fn leaves_strangers(rt: HostRuntime) {
+fn a_rollback_leaves_steps_that_do_not_depend(rt: HostRuntime) {
     play_anew(&rt, TWO_PAIRS, STRANGERS_STAY);
 }
 
@@ -121,9 +122,9 @@ const TO_THE_LAST_MARK: &[Line] = &[
 // What is played where a gives b ints.
 const MARKED: &[&[Line]] = &[TO_THE_MARK, TO_THE_LAST_MARK];
 
-// `Session::back` is the rollback of the role's first step after its last mark of that name, or `NoMark`.
+// `mps_session::Session::back` is the rollback of the role's first step after its last mark of that name, or `NoMark`.
 #[test]
-fn goes_back_to_marks(rt: HostRuntime) {
+fn a_return_goes_to_the_last_mark_of_the_name(rt: HostRuntime) {
     for lines in MARKED {
         play_giving(&rt, lines);
     }
@@ -143,9 +144,9 @@ const OTHER_BRANCH: &[Line] = &[
     Asks(B, Ask::Pick(A), "Ended"),
 ];
 
-// `Session::rollback` of a pick: the label waits again. Of a choice: another one may be made.
+// `mps_session::Session::rollback` of a pick: the label waits again. Of a choice: another one may be made.
 #[test]
-fn rolls_back_choices(rt: HostRuntime) {
+fn a_choice_rolled_back_can_be_made_anew(rt: HostRuntime) {
     let mut session = opened(&rt, looping(&rt));
     play(&rt, &mut session, OTHER_BRANCH);
 }
@@ -175,11 +176,14 @@ fn takes_half_back(rt: &impl Abort, session: &mut Session) -> bool {
     }
 }
 
-// Of 1,000 sends of one role those from 501 on are taken back, newest first.
+// `mps_session::Session::rollback`: of 1,000 sends of one role those from 501 on are taken back, newest first.
 #[test]
-fn rolls_back_many_steps(rt: HostRuntime) {
+fn a_rollback_takes_the_upper_half_of_a_thousand_sends(rt: HostRuntime) {
     let mut session = opened(&rt, giving(&rt));
     ask_often(&rt, &mut session, A, Ask::Send(B, "1"), 1000);
-    assert!(rt; takes_half_back(&rt, &mut session));
+    assert!(rt;
+        takes_half_back(&rt, &mut session),
+        "500 steps, from 1000 down to 501"
+    );
     play(&rt, &mut session, HALF);
 }

@@ -57,7 +57,10 @@ pub(super) fn role_of(rt: &impl Abort, session: &Session, place: u8) -> Role
     ensures { result < length session.now.types }
 {
     let role = Role::new(place);
-    assert!(rt; role.index() < session.roles(), "a role");
+    assert!(rt;
+        role.index() < session.roles(),
+        "the role at place {place} is of the session"
+    );
     role
 }
 
@@ -288,32 +291,50 @@ pub(super) enum Line {
 
 use Line::{Asks, Count, GoesBack, Keeps, Moves, RollsBack, Step, Undoes, Waits};
 
-// The text is the one that is wanted.
-fn is_told(rt: &impl Abort, found: String, wanted: &str) {
-    assert!(rt; found.as_str() == wanted, "{found} for {wanted}");
+// The text found in that row is the wanted one.
+fn is_told(rt: &impl Abort, row: usize, found: String, wanted: &str) {
+    assert!(rt;
+        found.as_str() == wanted,
+        "row {row} (from 0): {found} for {wanted}"
+    );
 }
 
-// The line comes out as it is wanted.
-fn play_line(rt: &(impl Abort + AllocGlobal), session: &mut Session, line: Line) {
+// The line, in that row, comes out as it is wanted.
+fn play_line(rt: &(impl Abort + AllocGlobal), session: &mut Session, row: usize, line: Line) {
     match line {
-        Asks(place, ask, wanted) => is_told(rt, answer(rt, session, place, ask), wanted),
-        Undoes(place, id, wanted) => is_told(rt, undone(rt, session, place, id), wanted),
-        RollsBack(place, id, wanted) => is_told(rt, rolled_back(rt, session, place, id), wanted),
-        GoesBack(place, mark, wanted) => is_told(rt, went_back(rt, session, place, mark), wanted),
-        Waits(from, to, k, wanted) => is_told(rt, waiting(rt, session, from, to, k), wanted),
-        Keeps(place, slot, wanted) => is_told(rt, kept(rt, session, place, slot), wanted),
-        Step(k, wanted) => is_told(rt, step(rt, session, k), wanted),
-        Moves(wanted) => is_told(rt, moved(rt, session), wanted),
+        Asks(place, ask, wanted) => is_told(rt, row, answer(rt, session, place, ask), wanted),
+        Undoes(place, id, wanted) => is_told(rt, row, undone(rt, session, place, id), wanted),
+        RollsBack(place, id, wanted) => is_told(
+            rt,
+            row,
+            rolled_back(rt, session, place, id),
+            wanted,
+        ),
+        GoesBack(place, mark, wanted) => is_told(
+            rt,
+            row,
+            went_back(rt, session, place, mark),
+            wanted,
+        ),
+        Waits(from, to, k, wanted) => is_told(rt, row, waiting(rt, session, from, to, k), wanted),
+        Keeps(place, slot, wanted) => is_told(rt, row, kept(rt, session, place, slot), wanted),
+        Step(k, wanted) => is_told(rt, row, step(rt, session, k), wanted),
+        Moves(wanted) => is_told(rt, row, moved(rt, session), wanted),
         Count(steps, numbers) => {
-            assert_eq!(rt; (session.len(), session.issued()), (steps, numbers));
+            let found = (session.len(), session.issued());
+            assert_eq!(rt;
+                found,
+                (steps, numbers),
+                "the steps and the numbers, row {row} (from 0)"
+            );
         }
     }
 }
 
 // Each line comes out as it is wanted.
 pub(super) fn play(rt: &(impl Abort + AllocGlobal), session: &mut Session, lines: &[Line]) {
-    for line in lines {
-        play_line(rt, session, *line);
+    for (row, line) in lines.iter().enumerate() {
+        play_line(rt, session, row, *line);
     }
 }
 
@@ -400,9 +421,10 @@ const RELAY: &[Line] = &[
     Waits(255, 255, 0, "-"),
 ];
 
-// `Session::forward` does the steps that the types allow. `message`, `slot`, `step` and `moves` show what they led to.
+// `mps_session::Session::forward` does the steps that the types allow. `message`, `slot`, `step` and `moves` show what
+// they led to.
 #[test]
-fn relays(rt: HostRuntime) {
+fn accepted_steps_show_in_the_session(rt: HostRuntime) {
     play_anew(&rt, A_TO_B_TO_C, RELAY);
 }
 
@@ -427,9 +449,10 @@ const REFUSALS: &[Line] = &[
     Waits(A, B, 1, "-"),
 ];
 
-// `Session::forward` refuses what a role's type does not allow, by the first reason, and then nothing has changed.
+// `mps_session::Session::forward` refuses what a role's type does not allow, by the first reason, and then nothing has
+// changed.
 #[test]
-fn refuses(rt: HostRuntime) {
+fn a_refused_step_changes_nothing(rt: HostRuntime) {
     play_anew(&rt, A_TO_B_TO_C, REFUSALS);
 }
 
@@ -445,9 +468,10 @@ const MISMATCH: &[Line] = &[
     Count(1, 1),
 ];
 
-// A receipt of a value of another sort is a `Mismatch`, and changes nothing. With a protocol's types this can't happen.
+// `mps_session::Session::forward` refuses the receipt of a value of another sort as `Mismatch`, and changes nothing.
+// With a protocol's types this can't happen.
 #[test]
-fn refuses_a_message_of_another_sort(rt: HostRuntime) {
+fn a_value_of_another_sort_is_a_mismatch(rt: HostRuntime) {
     play_anew(&rt, UNFITTING, MISMATCH);
 }
 
@@ -482,9 +506,9 @@ const VALUES: &[Line] = &[
     Step(0, "1 0 gave 1 \"good day\""),
 ];
 
-// `Session::forward` passes values of each sort on unchanged.
+// `mps_session::Session::forward` passes values of each sort on unchanged.
 #[test]
-fn carries_values_of_each_sort(rt: HostRuntime) {
+fn values_of_each_sort_are_passed_unchanged(rt: HostRuntime) {
     play_anew(&rt, EACH_SORT, VALUES);
 }
 
@@ -516,9 +540,9 @@ const AGAIN: &[Line] = &[
     Moves("1 1; 2 2; 3 3; 4 1; 5 2; 6 3; "),
 ];
 
-// `Session::slot` gives the value of the newest receipt into the slot; other slots and roles keep theirs.
+// `mps_session::Session::slot` gives the value of the newest receipt into the slot; other slots and roles keep theirs.
 #[test]
-fn binds_a_slot_again(rt: HostRuntime) {
+fn a_slot_has_the_value_of_its_newest_receipt(rt: HostRuntime) {
     play_anew(&rt, THREE, AGAIN);
 }
 
@@ -535,9 +559,10 @@ const MARKS: &[Line] = &[
     Moves("1 -; 2 5; 3 -; "),
 ];
 
-// A mark is a step with a number, always allowed, which leaves type, queues and slots as they are.
+// `mps_session::Session::forward` of a mark is a step with a number, always allowed, which leaves type, queues and
+// slots as they are.
 #[test]
-fn marks(rt: HostRuntime) {
+fn a_mark_is_a_step_that_is_always_allowed(rt: HostRuntime) {
     play_anew(&rt, A_TO_B_TO_C, MARKS);
 }
 
@@ -565,10 +590,16 @@ fn fault_of(opening: Opening) -> Option<OpenFault> {
     }
 }
 
-// That comes of opening a session with the types.
-pub(super) fn opens_so(rt: &(impl Abort + AllocGlobal), types: Vec<Local>, wanted: Opening) {
+// That comes of opening a session with the types, of which this is said.
+pub(super) fn opens_so(
+    rt: &(impl Abort + AllocGlobal),
+    what: &str,
+    types: Vec<Local>,
+    wanted: Opening,
+) {
+    let wanted = fault_of(wanted);
     let fault = Session::open(rt.alloc(), types).err();
-    assert!(rt; fault == fault_of(wanted));
+    assert!(rt; fault == wanted, "{what}: {fault:?} for {wanted:?}");
 }
 
 // Types: nothing; an output to a; the same and then an input from c.
@@ -578,25 +609,26 @@ const TO_A: &[Row] = &[(true, A, Sort::Int)];
 
 const FROM_C: &[Row] = &[(true, A, Sort::Int), (false, C, Sort::Int)];
 
-// Rows of types, and what comes of opening a session with them.
-const OPENINGS: &[(&[&[Row]], Opening)] = &[
+// What is said of types, their rows, and what comes of opening a session with them.
+const OPENINGS: &[(&str, &[&[Row]], Opening)] = &[
     // 2 to 8 roles, and one too few or too many
-    (&[END], Opening::RoleCount),
-    (&[END; 2], Opening::Opened),
-    (&[END; 8], Opening::Opened),
-    (&[END; 9], Opening::RoleCount),
-    // a names itself; b names c, of two roles; both, of which the least role is told
-    (&[TO_A, TO_A], Opening::BadPeer(A)),
-    (&[&[TO_B], FROM_C], Opening::BadPeer(B)),
-    (&[TO_A, FROM_C], Opening::BadPeer(A)),
+    ("one role", &[END], Opening::RoleCount),
+    ("2 roles", &[END; 2], Opening::Opened),
+    ("8 roles", &[END; 8], Opening::Opened),
+    ("9 roles", &[END; 9], Opening::RoleCount),
+    // of two bad peers that of the least role is told
+    ("a of two names a", &[TO_A, TO_A], Opening::BadPeer(A)),
+    ("b of two names c", &[&[TO_B], FROM_C], Opening::BadPeer(B)),
+    ("both of two", &[TO_A, FROM_C], Opening::BadPeer(A)),
     // of three roles c is one
-    (&[&[TO_B], FROM_C, END], Opening::Opened),
+    ("b of three", &[&[TO_B], FROM_C, END], Opening::Opened),
 ];
 
-// `Session::open` takes the types of 2 to 8 roles that name other roles alone, and else tells the fault and the role.
+// `mps_session::Session::open` takes the types of 2 to 8 roles that name other roles alone, and else tells the fault
+// and the role.
 #[test]
-fn opens(rt: HostRuntime) {
-    for (rows, wanted) in OPENINGS {
-        opens_so(&rt, types(&rt, rows), *wanted);
+fn types_of_2_to_8_roles_open_a_session(rt: HostRuntime) {
+    for (what, rows, wanted) in OPENINGS {
+        opens_so(&rt, what, types(&rt, rows), *wanted);
     }
 }

@@ -66,7 +66,11 @@ fn asked(rt: &impl Abort, stores: &mut Stores, role: Role, keys: &[Key], ask: &A
 fn shows(rt: &impl Abort, stores: &Stores, role: Role, keys: &[Key], want: &[(&str, usize)])
     requires { role < 8 }
 {
-    assert_eq!(rt; stores.entries(role).len(), want.len());
+    assert_eq!(rt;
+        stores.entries(role).len(),
+        want.len(),
+        "the count of slots"
+    );
     for (entry, (letters, place)) in stores.entries(role).zip(want) {
         let key = key_at(rt, keys, Some(*place));
         assert!(rt;
@@ -79,7 +83,10 @@ fn shows(rt: &impl Abort, stores: &Stores, role: Role, keys: &[Key], want: &[(&s
             "what {letters} is bound to"
         );
     }
-    assert!(rt; stores.get(role, &name(rt, "w")).is_none());
+    assert!(rt;
+        stores.get(role, &name(rt, "w")).is_none(),
+        "slot w is not bound"
+    );
 }
 
 // x and y are bound, x once more, and then each gets back what it had. Keys are named by their places among four.
@@ -96,9 +103,10 @@ const THERE_AND_BACK: &[Row] = &[
     (Ask::Unbind("x", None), &[]),
 ];
 
-// `Stores::bind` and `unbind` in each of 8 roles: a name bound again keeps its place, and gets back what it had.
+// `mps_stores::Stores::bind` and `unbind` in each of 8 roles: a name bound again keeps its place, and gets back what it
+// had.
 #[test]
-fn goes_there_and_back_in_each_role(rt: HostRuntime) {
+fn a_name_unbound_gets_back_what_it_had(rt: HostRuntime) {
     let keys = some_keys(&rt, 4);
     let mut stores = Stores::new(rt.alloc()).expect(&rt, "memory");
     for place in 0..8u8 {
@@ -109,9 +117,10 @@ fn goes_there_and_back_in_each_role(rt: HostRuntime) {
     }
 }
 
-// Each of 8 roles binds x to a key of its own, and what role 5 takes back is still bound for 4 and 6.
+// `mps_stores::Stores::bind` and `unbind`: each of 8 roles binds x to a key of its own, and what role 5 takes back is
+// still bound for 4 and 6.
 #[test]
-fn keeps_each_role_apart(rt: HostRuntime) {
+fn each_role_has_its_own_bindings(rt: HostRuntime) {
     let keys = some_keys(&rt, 8);
     let mut stores = Stores::new(rt.alloc()).expect(&rt, "memory");
     for place in 0..8u8 {
@@ -146,14 +155,17 @@ fn binds(rt: &impl Abort, stores: &mut Stores, role: Role, letters: &str, key: K
     let was = stores
         .bind(role, &name(rt, letters), key)
         .expect(rt, "memory");
-    assert!(rt; was.is_none());
+    assert!(rt; was.is_none(), "{letters} was not bound");
 }
 
 // The slot is bound to the key.
 fn is_bound(rt: &impl Abort, stores: &Stores, role: Role, letters: &str, key: Option<Key>)
     requires { role < 8 }
 {
-    assert!(rt; stores.get(role, &name(rt, letters)) == key);
+    assert!(rt;
+        stores.get(role, &name(rt, letters)) == key,
+        "what {letters} is bound to"
+    );
 }
 
 // Takes the slot's binding back.
@@ -164,9 +176,10 @@ fn unbinds(rt: &impl Abort, stores: &mut Stores, role: Role, letters: &str)
     is_bound(rt, stores, role, letters, None);
 }
 
-// 22 names of the last role are bound and taken back again, first to last and last to first.
+// `mps_stores::Stores::bind` and `unbind`: 22 names of the last role are bound and taken back again, first to last and
+// last to first.
 #[test]
-fn has_room_for_many_slots(rt: HostRuntime) {
+fn many_names_are_bound_and_unbound_in_order(rt: HostRuntime) {
     let keys = some_keys(&rt, 22);
     let role = Role::new(7);
     let mut stores = Stores::new(rt.alloc()).expect(&rt, "memory");
@@ -178,5 +191,5 @@ fn has_room_for_many_slots(rt: HostRuntime) {
     for letters in LETTERS.iter().rev() {
         unbinds(&rt, &mut stores, role, letters);
     }
-    assert_eq!(rt; stores.entries(role).len(), 0);
+    assert_eq!(rt; stores.entries(role).len(), 0, "no slot is left");
 }

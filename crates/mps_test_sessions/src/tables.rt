@@ -189,7 +189,7 @@ fn table_of(rt: &(impl Abort + AllocGlobal), t: &Local) -> Table {
 fn shows_each(rt: &(impl Abort + AllocGlobal), t: Local, rows: &[Row]) {
     let table = table_of(rt, &t);
     for (place, row) in rows.iter().enumerate() {
-        assert!(rt; shows(&table, row.0, &row.1), "row {place}");
+        assert!(rt; shows(&table, row.0, &row.1), "row {place} (from 0)");
     }
 }
 
@@ -207,9 +207,10 @@ const CHAIN: &[Row] = &[
 // Two labels, and the end behind each.
 const OK_OR_NO: &[Arm] = &[("ok", Part::Nothing, "end"), ("no", Part::Nothing, "end")];
 
-// The table of `send b int . pick c { ok : end , no : end }` shows at each node what the type allows there.
+// `mps_table::compile` of `send b int . pick c { ok : end , no : end }` gives a table that shows at each node what is
+// allowed there.
 #[test]
-fn shows_a_chain(rt: HostRuntime) {
+fn a_table_shows_each_node_of_a_chain(rt: HostRuntime) {
     let t = in_front(&rt, &Part::Send(B, Int), picks(&rt, C, OK_OR_NO));
     shows_each(&rt, t, CHAIN);
 }
@@ -229,9 +230,10 @@ const ROUNDS: &[Row] = &[
     (&[Some(0), None, Some(0), None, Some(1)], Shown::End),
 ];
 
-// In the table of `rec X . choose b { go : send b int . X , stop : end }` a loop leads back to its choice.
+// `mps_table::compile` of `rec X . choose b { go : send b int . X , stop : end }` gives a table whose loop leads back
+// to its choice.
 #[test]
-fn goes_round_a_loop(rt: HostRuntime) {
+fn a_loop_leads_back_to_its_choice(rt: HostRuntime) {
     let round = chooses(&rt, B, ROUND);
     shows_each(&rt, in_front(&rt, &Part::Rec("X"), round), ROUNDS);
 }
@@ -260,9 +262,9 @@ const TURNS: &[Row] = &[
     (&[None, Some(2)], Shown::End),
 ];
 
-// In a table each of two loops, one in the other, leads back to its own beginning.
+// `mps_table::compile` of two loops, one in the other, gives a table in which each leads back to its own beginning.
 #[test]
-fn goes_round_a_loop_in_a_loop(rt: HostRuntime) {
+fn each_of_two_loops_leads_back_to_its_own_beginning(rt: HostRuntime) {
     shows_each(&rt, chain(&rt, TURN_BEGINS, picks(&rt, A, TURN)), TURNS);
 }
 
@@ -272,12 +274,15 @@ const HEADS: &[Part] = &[Part::Rec("X"), Part::Rec("Y"), Part::Send(B, Int)];
 // Back to either loop.
 const BACK: &[Arm] = &[("x", Part::Nothing, "X"), ("y", Part::Nothing, "Y")];
 
-// Two `rec`s before one act are no nodes of their own: both variables lead to the first node, the output.
+// `mps_table::compile` makes no nodes of two `rec`s before one act: both variables lead to the first node, the output.
 #[test]
-fn one_node_for_two_loops(rt: HostRuntime) {
+fn two_loops_before_one_act_share_its_node(rt: HostRuntime) {
     let table = table_of(&rt, &chain(&rt, HEADS, picks(&rt, B, BACK)));
     for choices in [[None, Some(0)], [None, Some(1)]] {
-        assert!(rt; reached(&table, &choices) == Some(table.first()));
+        assert!(rt;
+            reached(&table, &choices) == Some(table.first()),
+            "after {choices:?}"
+        );
     }
 }
 
@@ -317,9 +322,10 @@ const WIDE: &[Row] = &[
     (&[Some(16)], Shown::NoNode),
 ];
 
-// The table of a choice of 16 labels shows them in order, and behind each what the type allows there.
+// `mps_table::compile` of a choice of 16 labels gives a table that shows them in order, and behind each what is allowed
+// there.
 #[test]
-fn shows_a_wide_choice(rt: HostRuntime) {
+fn a_table_shows_sixteen_labels_in_order(rt: HostRuntime) {
     shows_each(&rt, chooses(&rt, H, INPUTS), WIDE);
 }
 
@@ -371,9 +377,9 @@ const WIDE_BELOW_ANOTHER: &[Row] = &[
     (&[Some(7), Some(16)], Shown::NoNode),
 ];
 
-// The labels of a choice and of one behind its eighth label are kept apart, 16 of each.
+// `mps_table::compile` keeps the labels of a choice and of one behind its eighth label apart, 16 of each.
 #[test]
-fn shows_a_wide_choice_below_another(rt: HostRuntime) {
+fn the_labels_of_two_choices_are_kept_apart(rt: HostRuntime) {
     shows_each(&rt, choice_below_another(&rt), WIDE_BELOW_ANOTHER);
 }
 
@@ -418,25 +424,39 @@ fn walks(rt: &impl Abort, table: &Table, place: usize, shown: &Shown<'_>) {
     let mut way = [None; 51];
     way[0] = Some(place);
     for count in 1..51usize {
-        assert!(rt; shows(table, &way[..count], shown), "{place} {count}");
+        assert!(rt;
+            shows(table, &way[..count], shown),
+            "branch {place}, node {count}"
+        );
     }
-    assert!(rt; shows(table, &way, &Shown::End));
+    assert!(rt;
+        shows(table, &way, &Shown::End),
+        "the end of branch {place}"
+    );
 }
 
-// `compile` makes a table of 256 nodes, the most: the choice, and five times 50 inputs and an end. 257 are a fault.
+// `mps_table::compile` makes a table of 256 nodes, the most: the choice, and five times 50 inputs and an end. 257 are a
+// fault.
 #[test]
-fn walks_a_type_of_256_nodes_to_its_end(rt: HostRuntime) {
+fn a_type_of_256_nodes_is_walked_to_its_end(rt: HostRuntime) {
     let table = table_of(&rt, &five_chains(&rt, 50));
     for (place, (_, from, sort)) in FIVE.iter().enumerate() {
         walks(&rt, &table, place, &Shown::Recv(*from, *sort));
     }
-    assert!(rt; shows(&table, &[Some(5)], &Shown::NoNode));
+    assert!(rt;
+        shows(&table, &[Some(5)], &Shown::NoNode),
+        "no branch at place 5"
+    );
     refuses(&rt, five_chains(&rt, 51), LocalFault::TooManyNodes);
 }
 
 // The type is refused for this fault.
 fn refuses(rt: &(impl Abort + AllocGlobal), t: Local, fault: LocalFault) {
-    assert_eq!(rt; compile(rt.alloc(), &t).err(), Some(fault));
+    assert_eq!(rt;
+        compile(rt.alloc(), &t).err(),
+        Some(fault),
+        "a type with {fault:?}"
+    );
 }
 
 // A choice of so many branches of one label, of which each ends.
@@ -449,9 +469,10 @@ fn wide(rt: &(impl Abort + AllocGlobal), count: usize) -> Local {
     Local::Branch { peer, branches }
 }
 
-// `compile` makes a table of 64 levels (63 outputs and the end), and else names the first fault, of types of any size.
+// `mps_table::compile` makes a table of 64 levels (63 outputs and the end), and else names the first fault, of types of
+// any size.
 #[test]
-fn refuses_what_has_a_fault(rt: HostRuntime) {
+fn a_type_with_a_fault_has_no_table(rt: HostRuntime) {
     let output = Part::Send(B, Int);
     shows_each(&rt, many(&rt, 63, &output), &[]);
     refuses(&rt, many(&rt, 64, &output), LocalFault::TooDeep);
@@ -486,9 +507,9 @@ const SEVENTEEN: &[Arm] = &[
     ("q", Part::Nothing, "end"),
 ];
 
-// `compile` names what is wrong with the labels of a choice, or with a `rec` in one of the same variable.
+// `mps_table::compile` names what is wrong with the labels of a choice, or with a `rec` in one of the same variable.
 #[test]
-fn names_the_fault_of_a_choice(rt: HostRuntime) {
+fn the_fault_of_a_choice_or_a_loop_is_named(rt: HostRuntime) {
     refuses(&rt, chooses(&rt, B, &[]), LocalFault::NoBranches);
     refuses(&rt, picks(&rt, B, DOUBLE), LocalFault::DoubleLabel);
     refuses(&rt, picks(&rt, B, SEVENTEEN), LocalFault::TooManyBranches);

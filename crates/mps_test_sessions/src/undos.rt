@@ -46,9 +46,10 @@ const BY_NAME: &[Line] = &[
 // What is played where a gives b an int, and b one to c.
 const RELAYED: &[&[Line]] = &[WAITS_FOR_THE_RECEIPT, BY_NAME];
 
-// `Session::undo` removes a role's own surviving step on which no other depends, or says why not and changes nothing.
+// `mps_session::Session::undo` removes a role's own surviving step on which no other depends, or says why not and
+// changes nothing.
 #[test]
-fn undoes_in_a_relay(rt: HostRuntime) {
+fn an_undo_takes_a_step_on_which_none_depends(rt: HostRuntime) {
     for lines in RELAYED {
         play_anew(&rt, A_TO_B_TO_C, lines);
     }
@@ -123,9 +124,10 @@ const GIVEN_TWICE: &[&[Line]] = &[
     NEVER_AGAIN,
 ];
 
-// `Session::undo` leaves queue and slot as before the step, and of the steps that depend on it names the least.
+// `mps_session::Session::undo` leaves queue and slot as before the step, and of the steps that depend on it names the
+// least.
 #[test]
-fn undoes_of_two_messages(rt: HostRuntime) {
+fn an_undo_leaves_queue_and_slot_as_before(rt: HostRuntime) {
     for lines in GIVEN_TWICE {
         play_anew(&rt, TWICE, lines);
     }
@@ -151,9 +153,10 @@ const OTHER_BRANCH: &[Line] = &[
     Moves("1 -; 5 stop; 6 stop; "),
 ];
 
-// `Session::undo` of a pick or a choice takes the role's type back too. A mark is needed by the role's next step.
+// `mps_session::Session::undo` of a pick or a choice takes the role's type back too. A mark is needed by the role's
+// next step.
 #[test]
-fn undoes_choices_and_marks(rt: HostRuntime) {
+fn an_undone_choice_can_be_made_anew(rt: HostRuntime) {
     let mut session = opened(&rt, looping(&rt));
     play(&rt, &mut session, OTHER_BRANCH);
 }
@@ -179,9 +182,10 @@ fn undo_all(rt: &(impl Abort + AllocGlobal), session: &mut Session, last: u64) {
     }
 }
 
-// A role's 1,000 sends can be undone one by one, the newest first, and nothing is left but their numbers.
+// `mps_session::Session::undo`: a role's 1,000 sends are undone one by one, the newest first, and nothing is left but
+// their numbers.
 #[test]
-fn undoes_a_thousand_steps(rt: HostRuntime) {
+fn a_thousand_sends_are_undone_newest_first(rt: HostRuntime) {
     let mut session = opened(&rt, giving(&rt));
     ask_often(&rt, &mut session, A, Ask::Send(B, "1"), 1000);
     play(&rt, &mut session, MANY);
@@ -206,9 +210,10 @@ const AFTER_THEM: &[Line] = &[
     Count(2, 1002),
 ];
 
-// A send and its undo, 1,000 times: the session then goes on as a new one, with the number 1,001.
+// `mps_session::Session::undo` of each of 1,000 sends at once: the session then goes on as a new one, with the number
+// 1,001.
 #[test]
-fn undoes_a_thousand_sends_at_once(rt: HostRuntime) {
+fn a_number_undone_a_thousand_times_never_comes_again(rt: HostRuntime) {
     let mut session = opened(&rt, giving(&rt));
     send_and_undo(&rt, &mut session, 1000);
     play(&rt, &mut session, AFTER_THEM);
@@ -236,8 +241,8 @@ const BOUND_AGAIN: &[Line] = &[
     Keeps(B, "y", "1"),
 ];
 
-// `Session::undo` of a receipt gives its slot what it had before, and leaves the other slot.
+// `mps_session::Session::undo` of a receipt gives its slot what it had before, and leaves the other slot.
 #[test]
-fn unbinds_slots(rt: HostRuntime) {
+fn an_undone_receipt_gives_its_slot_what_it_had(rt: HostRuntime) {
     play_giving(&rt, BOUND_AGAIN);
 }

@@ -10,13 +10,13 @@ use mps_table::{Expect, Node, Table, compile};
 use std::alloc::AllocGlobal;
 use std::process::Abort;
 
-// The peer that the type names, and another one.
+// Two peers. The types of the constants below name b, and c is another role for them; the pick of ANSWERED names c.
 const B: u8 = 1;
 
 const C: u8 = 2;
 
 // What a role asks for: its peer's place, and the label or the value as it is spelled.
-#[derive(Clone, Copy)]
+#[derive(Clone, Copy, Debug)]
 enum Ask {
     Send(u8, &'static str),
     Choose(u8, &'static str),
@@ -27,7 +27,7 @@ enum Ask {
 }
 
 // What a message says: the label, or the value as it is spelled.
-#[derive(Clone, Copy)]
+#[derive(Clone, Copy, Debug)]
 enum Said {
     Value(&'static str),
     Label(&'static str),
@@ -175,7 +175,7 @@ fn is_answered(rt: &(impl Abort + AllocGlobal), labels: &[Name], row: &Row) -> b
 fn are_answered(rt: &(impl Abort + AllocGlobal), judged: &Judged<'_>) {
     let labels = names(rt, judged.0);
     for (place, row) in judged.1.iter().enumerate() {
-        assert!(rt; is_answered(rt, &labels, row), "row {place}");
+        assert!(rt; is_answered(rt, &labels, row), "row {place} (from 0)");
     }
 }
 
@@ -193,9 +193,9 @@ const AT_THE_END: &Judged<'static> = &Judged(
     ],
 );
 
-// `judge` answers `Ended` to each act where the type has ended, and lets marks and commits pass.
+// `mps_monitor::judge` answers `Ended` to each act where the type has ended, and lets marks and commits pass.
 #[test]
-fn nothing_but_marks_and_commits_after_the_end(rt: HostRuntime) {
+fn only_marks_and_commits_are_allowed_after_the_end(rt: HostRuntime) {
     are_answered(&rt, AT_THE_END);
 }
 
@@ -217,9 +217,9 @@ const GIVING: &Judged<'static> = &Judged(
     ],
 );
 
-// `judge` allows the value of that sort for that peer, and else names the first violation.
+// `mps_monitor::judge` allows the value of that sort for that peer, and else names the first violation.
 #[test]
-fn gives_what_is_expected(rt: HostRuntime) {
+fn the_expected_send_is_allowed(rt: HostRuntime) {
     are_answered(&rt, GIVING);
 }
 
@@ -241,9 +241,9 @@ const TAKING: &Judged<'static> = &Judged(
     ],
 );
 
-// `judge` allows the receipt where an int waits first, and else names the first violation.
+// `mps_monitor::judge` allows the receipt where an int waits first, and else names the first violation.
 #[test]
-fn takes_what_is_expected(rt: HostRuntime) {
+fn the_expected_receipt_is_allowed(rt: HostRuntime) {
     are_answered(&rt, TAKING);
 }
 
@@ -263,9 +263,10 @@ const OF_EACH_SORT: &Judged<'static> = &Judged(
     ],
 );
 
-// `judge` compares a value's sort with the expected one; another is `WrongSort` to the sender, `Mismatch` to the other.
+// `mps_monitor::judge` compares a value's sort with the expected one; another is `WrongSort` to the sender, `Mismatch`
+// to the other.
 #[test]
-fn passes_values_of_each_sort(rt: HostRuntime) {
+fn a_value_of_another_sort_is_refused(rt: HostRuntime) {
     are_answered(&rt, OF_EACH_SORT);
 }
 
@@ -291,9 +292,9 @@ const CHOOSING: &Judged<'static> = &Judged(
     ],
 );
 
-// `judge` leads into the branch of the label, by its place from 0, and else names the first violation.
+// `mps_monitor::judge` leads into the branch of the label, by its place from 0, and else names the first violation.
 #[test]
-fn chooses_among_labels(rt: HostRuntime) {
+fn a_choice_leads_into_the_branch_of_its_label(rt: HostRuntime) {
     are_answered(&rt, CHOOSING);
 }
 
@@ -317,9 +318,10 @@ const PICKING: &Judged<'static> = &Judged(
     ],
 );
 
-// `judge` leads into the branch of the label that waits first, by its place from 0, and else names the first violation.
+// `mps_monitor::judge` leads into the branch of the label that waits first, by its place from 0, and else names the
+// first violation.
 #[test]
-fn picks_the_branch_of_the_label(rt: HostRuntime) {
+fn a_pick_leads_into_the_branch_of_the_label_that_waits(rt: HostRuntime) {
     are_answered(&rt, PICKING);
 }
 
@@ -334,9 +336,9 @@ const IN_NONE: &Judged<'static> = &Judged(
     &[Row(CHOOSES, Ask::Choose(B, "no"), None, NO_LABEL)],
 );
 
-// `judge` takes labels as they come: of two that are the same, the first. A law's call does nothing.
+// `mps_monitor::judge` takes labels as they come: of two that are the same, the first. A law's call does nothing.
 #[test]
-fn takes_the_first_of_labels_that_are_the_same(rt: HostRuntime) {
+fn of_two_labels_that_are_the_same_the_first_is_taken(rt: HostRuntime) {
     are_answered(&rt, IN_THE_FIRST);
     are_answered(&rt, IN_NONE);
     the_machine_moves_the_same();
@@ -363,9 +365,10 @@ fn tell_apart(rt: &(impl Abort + AllocGlobal), peer: u8, other: u8) {
     are_answered(rt, &Judged(LABELS, &rows));
 }
 
-// `judge` allows an act with the very peer of the type, among 8, and refuses it with each other one as `WrongPeer`.
+// `mps_monitor::judge` allows an act with the very peer of the type, among 8, and refuses it with each other one as
+// `WrongPeer`.
 #[test]
-fn tells_eight_roles_apart(rt: HostRuntime) {
+fn a_peer_is_told_from_each_other_role(rt: HostRuntime) {
     for peer in 0..8u8 {
         for other in 0..8u8 {
             tell_apart(&rt, peer, other);
@@ -418,14 +421,14 @@ const OF_SIXTEEN: &Judged<'static> = &Judged(
     ],
 );
 
-// `judge` finds each of the most labels, 16, at its place, and no other.
+// `mps_monitor::judge` finds each of the most labels, 16, at its place, and no other.
 #[test]
-fn judges_a_choice_of_sixteen_labels(rt: HostRuntime) {
+fn each_of_sixteen_labels_is_found_at_its_place(rt: HostRuntime) {
     are_answered(&rt, OF_SIXTEEN);
 }
 
 // What is asked for, what the message says that waits first, and why it is not allowed.
-#[derive(Clone, Copy)]
+#[derive(Clone, Copy, Debug)]
 struct Asked(Ask, Option<Said>, Option<Violation>);
 
 // The node to which the table goes from this one where it is asked so, or why it does not.
@@ -450,10 +453,14 @@ fn goes_by(rt: &(impl Abort + AllocGlobal), table: &Table, rows: &[Asked]) {
     for asked in rows {
         match step(rt, table, node, asked) {
             Ok(next) => {
-                assert!(rt; asked.2.is_none());
+                assert!(rt; asked.2.is_none(), "{asked:?} is allowed");
                 node = next;
             }
-            Err(violation) => assert_eq!(rt; asked.2, Some(violation)),
+            Err(violation) => assert_eq!(rt;
+                asked.2,
+                Some(violation),
+                "the violation of {asked:?}"
+            ),
         }
     }
 }
@@ -543,9 +550,9 @@ fn leads_to(rt: &(impl Abort + AllocGlobal), t: &Local, asked: Asked, to: u8) {
     goes(rt, t, &rows);
 }
 
-// `next_node` leads to the node behind the label: there an output to the role of its place is allowed.
+// `mps_monitor::next_node` leads to the node behind the label: there an output to the role of its place is allowed.
 #[test]
-fn goes_into_the_first_and_the_last_of_sixteen(rt: HostRuntime) {
+fn the_first_and_the_last_of_sixteen_labels_lead_to_their_nodes(rt: HostRuntime) {
     for (text, to) in [("l1", 0), ("l8", 7), ("l9", 0), ("l16", 7)] {
         let chosen = Asked(Ask::Choose(B, text), None, None);
         leads_to(&rt, &chooses(&rt, B, SIXTEEN_ARMS), chosen, to);
@@ -579,9 +586,10 @@ const ROUNDS: &[Asked] = &[
     Asked(Ask::Choose(B, "ok"), None, Some(Violation::Ended)),
 ];
 
-// `next_node` goes round `rec X . choose b { ok : send b int . X, no : recv b bool . end, more : X }` and out of it.
+// `mps_monitor::next_node` goes round `rec X . choose b { ok : send b int . X, no : recv b bool . end, more : X }` and
+// out of it.
 #[test]
-fn goes_on_in_a_loop(rt: HostRuntime) {
+fn the_node_after_a_loop_is_its_beginning(rt: HostRuntime) {
     let turns = Local::rec(rt.alloc(), variable(&rt, "X"), chooses(&rt, B, IN_TURNS));
     goes(&rt, &turns.expect(&rt, "memory"), ROUNDS);
 }
@@ -601,8 +609,8 @@ const BEHIND_NO: &[Asked] = &[
     Asked(Ask::Pick(C), NO, Some(Violation::Ended)),
 ];
 
-// `next_node` goes into the branch picked in `pick c { ok : send b int . end, no : send c bool . end }`.
+// `mps_monitor::next_node` goes into the branch picked in `pick c { ok : send b int . end, no : send c bool . end }`.
 #[test]
-fn goes_into_the_branch_of_the_label(rt: HostRuntime) {
+fn a_picked_label_leads_to_the_node_behind_it(rt: HostRuntime) {
     goes(&rt, &picks(&rt, C, ANSWERED), BEHIND_NO);
 }

@@ -24,12 +24,18 @@ fn hub(alloc: Global, sessions: u64) -> Result<Hub, Fail>
     Ok(Hub::open(alloc, &names, types.as_slice(), sessions)?)
 }
 
-// `Hub::desk` gives the desk, with the passes of two sessions, once, and then says that it was given.
+// `mps_hub::Hub::desk` gives the desk, with the passes of two sessions, once, and then says that it was given.
 #[test]
-fn gives_its_desk_once(rt: HostRuntime) -> Result<(), Fail> {
+fn a_hub_gives_its_desk_once(rt: HostRuntime) -> Result<(), Fail> {
     let mut hub = hub(rt.alloc(), 2)?;
-    assert!(rt; hub.desk(rt.alloc()).is_ok());
-    assert!(rt; matches!(hub.desk(rt.alloc()), Err(PassFault::Given)));
+    assert!(rt;
+        hub.desk(rt.alloc()).is_ok(),
+        "the first call gives the desk"
+    );
+    assert!(rt;
+        matches!(hub.desk(rt.alloc()), Err(PassFault::Given)),
+        "the second call says that it was given"
+    );
     Ok(())
 }
 
@@ -40,7 +46,7 @@ fn gives_its_desk_once(rt: HostRuntime) -> Result<(), Fail> {
 type Row<'t> = (&'t [u8], Option<u64>, usize, &'t [u8], Attended);
 
 // Whether the connection comes to what its row says.
-fn is_played<R: Wait + 'static>(
+fn is_played<R: Wait + Eprint + 'static>(
     rt: &R,
     alloc: Global,
     desk: &Desk<'_>,
@@ -57,28 +63,28 @@ fn is_played<R: Wait + 'static>(
     Ok(writer.bytes() == *answers && attended == *ended)
 }
 
-// Whether each does, one after the other.
-fn are_played<R: Wait + 'static>(
+// Each does, one after the other, or its place is the failure.
+fn are_played<R: Wait + Eprint + 'static>(
     rt: &R,
     alloc: Global,
     desk: &Desk<'_>,
     rows: &[Row<'_>],
-) -> Result<bool, Fail> {
-    for row in rows {
+) -> Result<(), Fail> {
+    for (k, row) in rows.iter().enumerate() {
         if !is_played(rt, alloc, desk, row)? {
-            return Ok(false);
+            return Err(format!(in alloc; "row {k} (from 0)")?.into());
         }
     }
-    Ok(true)
+    Ok(())
 }
 
 // The connections come to these rows, one after the other, at the desk of the hub.
-fn plays<R: Wait + 'static>(
+fn plays<R: Wait + Eprint + 'static>(
     rt: &R,
     alloc: Global,
     mut hub: Hub,
     rows: &[Row<'_>],
-) -> Result<bool, Fail>
+) -> Result<(), Fail>
     requires { hub.given ≡ false }
 {
     let Some(deal) = hub.deal() else {
@@ -176,11 +182,11 @@ const JOINS: &[Row<'static>] = &[
     ),
 ];
 
-// `Serving::attend` answers the first line and then a conversation; however that ends, the pass can be joined again.
+// `mps_hub::Serving::attend` answers the first line and then a conversation; however that ends, the pass can be joined
+// again.
 #[test]
-fn gives_each_pass_back(rt: HostRuntime) -> Result<(), Fail> {
-    assert!(rt; plays(&rt, rt.alloc(), hub(rt.alloc(), 1)?, JOINS)?);
-    Ok(())
+fn a_pass_is_given_back_however_a_conversation_ends(rt: HostRuntime) -> Result<(), Fail> {
+    plays(&rt, rt.alloc(), hub(rt.alloc(), 1)?, JOINS)
 }
 
 // a's second connection breaks at its tenth read, the first after the join. b receives what its first one sent.
@@ -208,11 +214,10 @@ const FAILING: &[Row<'static>] = &[
     ),
 ];
 
-// What a connection's commands did stays when the role's next connection breaks.
+// `mps_hub::Serving::attend`: what a connection's commands did stays when the role's next connection breaks.
 #[test]
-fn keeps_the_steps_of_a_pass(rt: HostRuntime) -> Result<(), Fail> {
-    assert!(rt; plays(&rt, rt.alloc(), hub(rt.alloc(), 1)?, FAILING)?);
-    Ok(())
+fn steps_stay_when_the_next_connection_breaks(rt: HostRuntime) -> Result<(), Fail> {
+    plays(&rt, rt.alloc(), hub(rt.alloc(), 1)?, FAILING)
 }
 
 // a's first answer to `1 send b 5` gets lost: there is room for the 11 bytes of `joined` alone.
@@ -249,17 +254,17 @@ const REPEATS: &[Row<'static>] = &[
     ),
 ];
 
-// The newest number and its answer go back to the desk with the pass: a repeat in a later connection runs nothing.
+// `mps_hub::Serving::attend`: the newest number and its answer go back to the desk with the pass, so a repeat in a
+// later connection runs nothing.
 #[test]
-fn keeps_the_last_answer_of_a_pass(rt: HostRuntime) -> Result<(), Fail> {
-    assert!(rt; plays(&rt, rt.alloc(), hub(rt.alloc(), 1)?, REPEATS)?);
-    Ok(())
+fn the_newest_answer_goes_back_with_the_pass(rt: HostRuntime) -> Result<(), Fail> {
+    plays(&rt, rt.alloc(), hub(rt.alloc(), 1)?, REPEATS)
 }
 
-// A first line of over 512 bytes is read to its LF and refused, and the next connection joins. That its length is
-// looked at this can't show: so many `x` spell no join.
+// `mps_hub::Serving::attend` reads a first line of over 512 bytes to its LF and refuses it, and the next connection
+// joins. That its length is looked at this can't show: so many `x` spell no join.
 #[test]
-fn refuses_a_long_first_line(rt: HostRuntime) -> Result<(), Fail> {
+fn a_long_first_line_is_refused(rt: HostRuntime) -> Result<(), Fail> {
     // one byte more than MAX_LINE
     let mut text = vec![in rt.alloc(); b'x'; 513]?;
     text.push(b'\n')?;
@@ -268,8 +273,7 @@ fn refuses_a_long_first_line(rt: HostRuntime) -> Result<(), Fail> {
         (text.as_slice(), None, 99, refused, Attended::TurnedAway),
         (b"join 1 a\n", None, 99, b"joined 1 a\n", CLOSED),
     ];
-    assert!(rt; plays(&rt, rt.alloc(), hub(rt.alloc(), 1)?, &rows)?);
-    Ok(())
+    plays(&rt, rt.alloc(), hub(rt.alloc(), 1)?, &rows)
 }
 
 // Connections to two sessions.
@@ -319,11 +323,11 @@ fn hub_of_two(alloc: Global, first: u64) -> Result<Hub, Fail>
     Ok(Hub::of_numbered(alloc, &names, first, vec![in alloc; one, second]?)?)
 }
 
-// Sessions that are handed to `Hub::of_numbered` are numbered in their order, here from 1, each with its own journal.
+// `mps_hub::Hub::of_numbered` numbers the sessions that it is handed in their order, here from 1, each with its own
+// journal.
 #[test]
-fn has_its_sessions_apart(rt: HostRuntime) -> Result<(), Fail> {
-    assert!(rt; plays(&rt, rt.alloc(), hub_of_two(rt.alloc(), 1)?, SECOND)?);
-    Ok(())
+fn each_session_has_its_own_journal(rt: HostRuntime) -> Result<(), Fail> {
+    plays(&rt, rt.alloc(), hub_of_two(rt.alloc(), 1)?, SECOND)
 }
 
 // Connections to the sessions 17 and 18, and to numbers that no session has.
@@ -372,11 +376,10 @@ const NUMBERED: &[Row<'static>] = &[
     ),
 ];
 
-// `Hub::of_numbered` numbers its sessions from the number that it is given, here 17, which stands for any.
+// `mps_hub::Hub::of_numbered` numbers its sessions from the number that it is given, here 17, which stands for any.
 #[test]
-fn numbers_its_sessions(rt: HostRuntime) -> Result<(), Fail> {
-    assert!(rt; plays(&rt, rt.alloc(), hub_of_two(rt.alloc(), 17)?, NUMBERED)?);
-    Ok(())
+fn sessions_are_numbered_from_the_given_number(rt: HostRuntime) -> Result<(), Fail> {
+    plays(&rt, rt.alloc(), hub_of_two(rt.alloc(), 17)?, NUMBERED)
 }
 
 // Each role of both sessions joins.
@@ -390,24 +393,24 @@ const EACH_ROLE: &[Row<'static>] = &[
 ];
 
 // The connections come to these rows, and come a second time.
-fn plays_twice<R: Wait + 'static>(
+fn plays_twice<R: Wait + Eprint + 'static>(
     rt: &R,
     alloc: Global,
     mut hub: Hub,
     rows: &[Row<'_>],
-) -> Result<bool, Fail>
+) -> Result<(), Fail>
     requires { hub.given ≡ false }
 {
     let Some(deal) = hub.deal() else {
         return Err("given".into());
     };
     let desk = hub.desk_of(alloc, deal)?;
-    Ok(are_played(rt, alloc, &desk, rows)? && are_played(rt, alloc, &desk, rows)?)
+    are_played(rt, alloc, &desk, rows)?;
+    are_played(rt, alloc, &desk, rows)
 }
 
-// `Serving::attend` gives each pass of two sessions of three roles back: all can join a second time.
+// `mps_hub::Serving::attend` gives each pass of two sessions of three roles back: all can join a second time.
 #[test]
-fn gives_each_pass_of_each_session_back(rt: HostRuntime) -> Result<(), Fail> {
-    assert!(rt; plays_twice(&rt, rt.alloc(), hub(rt.alloc(), 2)?, EACH_ROLE)?);
-    Ok(())
+fn each_pass_of_each_session_can_be_joined_again(rt: HostRuntime) -> Result<(), Fail> {
+    plays_twice(&rt, rt.alloc(), hub(rt.alloc(), 2)?, EACH_ROLE)
 }

@@ -72,13 +72,13 @@ const LINE_BY_LINE: &[(&str, usize, Ending, &str, u64)] = &[
     ),
 ];
 
-// `converse` answers each whole line, in order, and says how the conversation ended.
+// `mps_wire::converse` answers each whole line, in order, and says how the conversation ended.
 #[test]
-fn talks_line_by_line(rt: HostRuntime) -> Result<(), Fail> {
+fn each_whole_line_is_answered_in_order(rt: HostRuntime) -> Result<(), Fail> {
     for (text, space, end, want, count) in LINE_BY_LINE {
         let pieces = in_one_piece(rt.alloc(), text)?;
         let entries = entries_after(rt.alloc(), pieces, room(*space), want.as_bytes(), *end)?;
-        assert_eq!(rt; entries, Some(*count), "{text}");
+        assert_eq!(rt; entries, Some(*count), "the entries after `{text}`");
     }
     Ok(())
 }
@@ -93,15 +93,23 @@ fn entries_in_space(alloc: Global, space: usize, end: Ending) -> Result<Option<u
     entries_after(alloc, pieces, room(space), want, end)
 }
 
-// `converse` writes each byte of its answers once, and calls no line before the answer to the one before it is written.
-// Each of the two answers has 7 bytes.
+// `mps_wire::converse` writes each byte of its answers once, and calls no line before the answer to the one before it
+// is written. Each of the two answers has 7 bytes.
 #[test]
-fn writes_each_byte_once(rt: HostRuntime) -> Result<(), Fail> {
+fn each_byte_of_an_answer_is_written_once(rt: HostRuntime) -> Result<(), Fail> {
     for space in 0..14 {
         let entries = entries_in_space(rt.alloc(), space, Ending::WriteFault)?;
-        assert_eq!(rt; entries, Some(if space < 7 { 1 } else { 2 }), "{space}");
+        assert_eq!(rt;
+            entries,
+            Some(if space < 7 { 1 } else { 2 }),
+            "with room for {space} bytes"
+        );
     }
-    assert_eq!(rt; entries_in_space(rt.alloc(), 14, Ending::Closed)?, Some(2));
+    assert_eq!(rt;
+        entries_in_space(rt.alloc(), 14, Ending::Closed)?,
+        Some(2),
+        "with room for both answers"
+    );
     Ok(())
 }
 
@@ -139,14 +147,17 @@ fn is_answered(alloc: Global, solo: &mut Solo, line: &str, want: &str) -> Result
     )
 }
 
-// `converse` runs a numbered line once, and repeats its answer. Four of these lines are run and accepted.
+// `mps_wire::converse` runs a numbered line once, and repeats its answer. Four of these lines are run and accepted.
 #[test]
-fn runs_a_number_once(rt: HostRuntime) -> Result<(), Fail> {
+fn a_numbered_line_is_run_once(rt: HostRuntime) -> Result<(), Fail> {
     let mut solo = new_solo(rt.alloc())?;
     for (line, want) in NUMBERED {
-        assert!(rt; is_answered(rt.alloc(), &mut solo, line, want)?, "{line}");
+        assert!(rt;
+            is_answered(rt.alloc(), &mut solo, line, want)?,
+            "the answer to `{line}`"
+        );
     }
-    assert_eq!(rt; solo.room.entries(), 4);
+    assert_eq!(rt; solo.room.entries(), 4, "four lines are run");
     Ok(())
 }
 
@@ -196,12 +207,16 @@ fn is_told_in_two(alloc: Global, talk: &Talk, at: usize) -> Result<bool, Fail> {
     Ok(entries == Some(talk.2))
 }
 
-// `converse` answers the same lines in whatever two pieces they come.
+// `mps_wire::converse` answers the same lines in whatever two pieces they come.
 #[test]
-fn talks_in_any_two_pieces(rt: HostRuntime) -> Result<(), Fail> {
+fn any_two_pieces_are_answered_alike(rt: HostRuntime) -> Result<(), Fail> {
     for talk in TALKS {
         for at in 0..talk.0.len() + 1 {
-            assert!(rt; is_told_in_two(rt.alloc(), talk, at)?, "cut at {at}");
+            assert!(rt;
+                is_told_in_two(rt.alloc(), talk, at)?,
+                "cut at {at}: {}",
+                talk.0
+            );
         }
     }
     Ok(())
@@ -216,12 +231,16 @@ fn is_answered_up_to(alloc: Global, talk: &Talk, at: usize) -> Result<bool, Fail
     Ok(entries_after(alloc, pieces, room(1_000), &told, Ending::Closed)?.is_some())
 }
 
-// `converse` answers the whole lines before any end, and doesn't run the rest. A failure tells the end, not the talk.
+// `mps_wire::converse` answers the whole lines before any end, and doesn't run the rest.
 #[test]
-fn ends_after_any_byte(rt: HostRuntime) -> Result<(), Fail> {
+fn a_line_cut_off_by_the_end_is_not_run(rt: HostRuntime) -> Result<(), Fail> {
     for talk in TALKS {
         for at in 0..talk.0.len() + 1 {
-            assert!(rt; is_answered_up_to(rt.alloc(), talk, at)?, "ended at {at}");
+            assert!(rt;
+                is_answered_up_to(rt.alloc(), talk, at)?,
+                "ended at {at}: {}",
+                talk.0
+            );
         }
     }
     Ok(())
@@ -236,14 +255,15 @@ fn ends_after_reads(alloc: Global, talk: &Talk, at: usize) -> Result<bool, Fail>
     Ok(entries_after(alloc, pieces, way, &told, Ending::ReadFault)?.is_some())
 }
 
-// `converse` has answered the whole lines before the read that fails. A failure tells after which byte, not the talk.
+// `mps_wire::converse` has answered the whole lines before the read that fails.
 #[test]
-fn ends_where_a_read_fails(rt: HostRuntime) -> Result<(), Fail> {
+fn whole_lines_are_answered_before_a_read_that_fails(rt: HostRuntime) -> Result<(), Fail> {
     for talk in TALKS {
         for at in 0..talk.0.len() + 1 {
             assert!(rt;
                 ends_after_reads(rt.alloc(), talk, at)?,
-                "failed after {at}"
+                "failed after {at}: {}",
+                talk.0
             );
         }
     }
@@ -259,12 +279,16 @@ fn ends_after_bytes(alloc: Global, talk: &Talk, space: usize) -> Result<bool, Fa
     Ok(entries_after(alloc, pieces, room(space), told, Ending::WriteFault)?.is_some())
 }
 
-// `converse` has written its answers up to the write that fails. A failure tells after how many bytes, not the talk.
+// `mps_wire::converse` has written its answers up to the write that fails.
 #[test]
-fn ends_where_a_write_fails(rt: HostRuntime) -> Result<(), Fail> {
+fn answers_are_written_up_to_a_write_that_fails(rt: HostRuntime) -> Result<(), Fail> {
     for talk in TALKS {
         for space in 0..talk.answer_bytes() {
-            assert!(rt; ends_after_bytes(rt.alloc(), talk, space)?, "{space}");
+            assert!(rt;
+                ends_after_bytes(rt.alloc(), talk, space)?,
+                "with room for {space} bytes: {}",
+                talk.0
+            );
         }
     }
     Ok(())
@@ -287,26 +311,27 @@ fn entries_once_asked(
     })
 }
 
-// An answer that could not be written is kept with its number: the line again gives it, and there is still one entry.
+// `mps_wire::converse` keeps an answer that could not be written with its number: the line again gives it, and there is
+// still one entry.
 #[test]
-fn asks_again_in_a_second_conversation(rt: HostRuntime) -> Result<(), Fail> {
+fn an_answer_that_was_not_written_is_kept(rt: HostRuntime) -> Result<(), Fail> {
     let mut solo = new_solo(rt.alloc())?;
     let entries = entries_once_asked(rt.alloc(), &mut solo, 0, b"", Ending::WriteFault)?;
-    assert_eq!(rt; entries, Some(1));
+    assert_eq!(rt; entries, Some(1), "after the write that failed");
     let entries = entries_once_asked(rt.alloc(), &mut solo, 100, b"done 1\n", Ending::Closed)?;
-    assert_eq!(rt; entries, Some(1));
+    assert_eq!(rt; entries, Some(1), "after the line again");
     Ok(())
 }
 
-// `converse` refuses each long line once, and answers the next line. The limit of 512 bytes this can't show: so many
-// `a` spell nothing, nor is any command so long.
+// `mps_wire::converse` refuses each long line once, and answers the next line. The limit of 512 bytes this can't show:
+// so many `a` spell nothing, nor is any command so long.
 #[test]
-fn talks_over_long_lines(rt: HostRuntime) -> Result<(), Fail> {
+fn a_long_line_is_refused_once(rt: HostRuntime) -> Result<(), Fail> {
     for length in [MAX_LINE, MAX_LINE + 1, 100_000] {
         let pieces = cut_long_line(rt.alloc(), length, "send b 5")?;
         let want = b"refused line\ndone 1\n";
         let entries = entries_after(rt.alloc(), pieces, room(100), want, Ending::Closed)?;
-        assert!(rt; entries.is_some(), "of {length}");
+        assert!(rt; entries.is_some(), "after a line of {length} bytes");
     }
     Ok(())
 }
@@ -340,15 +365,28 @@ fn ends_after_lines(
     Ok(entries_after(alloc, pieces, room(13_000_000), &answers, end)?.is_some())
 }
 
-// `converse` reads MAX_READS times, 1,000,000, and then ends as `Turns`, unless the last of these reads found the end.
+// `mps_wire::converse` reads MAX_READS times, 1,000,000, and then ends as `Turns`, unless the last of these reads found
+// the end.
 #[test]
-fn reads_a_million_times_at_most(rt: HostRuntime) -> Result<(), Fail> {
+fn a_conversation_ends_after_a_million_reads(rt: HostRuntime) -> Result<(), Fail> {
     let (alloc, turns) = (rt.alloc(), Ending::Turns);
     // one read for each byte: of the first million none ends a line, or every second
-    assert!(rt; ends_after_lines(alloc, letters(alloc, 1_000_001)?, 0, turns)?);
-    assert!(rt; ends_after_lines(alloc, letters_and_ends(alloc, 1_000_001)?, 500_000, turns)?);
+    assert!(rt;
+        ends_after_lines(alloc, letters(alloc, 1_000_001)?, 0, turns)?,
+        "letters alone"
+    );
+    assert!(rt;
+        ends_after_lines(alloc, letters_and_ends(alloc, 1_000_001)?, 500_000, turns)?,
+        "letters and LFs in turn"
+    );
     // the millionth read finds the end, or the last line
-    assert!(rt; ends_after_lines(alloc, letters(alloc, 999_999)?, 0, Ending::Closed)?);
-    assert!(rt; ends_after_lines(alloc, empty_lines(alloc, 1_000_000)?, 1_000_000, turns)?);
+    assert!(rt;
+        ends_after_lines(alloc, letters(alloc, 999_999)?, 0, Ending::Closed)?,
+        "999,999 letters"
+    );
+    assert!(rt;
+        ends_after_lines(alloc, empty_lines(alloc, 1_000_000)?, 1_000_000, turns)?,
+        "a million empty lines"
+    );
     Ok(())
 }

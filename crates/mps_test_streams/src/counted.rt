@@ -65,14 +65,14 @@ const SCRIPTS: [(&str, u64); 4] = [
     ("a give b 123456", 0),
 ];
 
-// `replay` makes an entry of each accepted line, in a script of no lines, of 10,000 and of 40,000.
+// `mps_wire::replay` makes an entry of each accepted line, in a script of no lines, of 10,000 and of 40,000.
 #[test]
-fn runs_scripts(rt: HostRuntime) -> Result<(), Fail> {
+fn each_accepted_line_of_a_script_is_an_entry(rt: HostRuntime) -> Result<(), Fail> {
     let alloc = rt.alloc();
     for (words, made) in SCRIPTS {
         for count in LENGTHS {
             let entries = run(alloc, lines(alloc, words, false, count)?)?;
-            assert_eq!(rt; entries, count * made, "{words}");
+            assert_eq!(rt; entries, count * made, "{count} lines of {words}");
         }
     }
     Ok(())
@@ -95,14 +95,15 @@ const TALKS: [(bool, &str, u64); 5] = [
     (false, "1 send b 123456", 1),
 ];
 
-// `converse` makes an entry of each accepted line, of a number once, in a conversation of no, 10,000 and 40,000 lines.
+// `mps_wire::converse` makes an entry of each accepted line, of a number once, in a conversation of no, 10,000 and
+// 40,000 lines.
 #[test]
-fn talks(rt: HostRuntime) -> Result<(), Fail> {
+fn each_accepted_line_of_a_conversation_is_an_entry(rt: HostRuntime) -> Result<(), Fail> {
     let alloc = rt.alloc();
     for (numbered, words, most) in TALKS {
         for count in LENGTHS {
             let entries = entries_after(alloc, words, numbered, count)?;
-            assert_eq!(rt; entries, count.min(most), "{words}");
+            assert_eq!(rt; entries, count.min(most), "{count} lines of {words}");
         }
     }
     Ok(())
@@ -121,12 +122,16 @@ fn entries_in_turn(alloc: Global, count: u64) -> Result<u64, Fail> {
     Ok(talk(alloc, room, Role::new(1), taken)?.entries())
 }
 
-// `converse` twice in one room: a gives so many numbers, and then b takes them, which makes an entry each.
+// `mps_wire::converse` twice in one room: a gives so many numbers, and then b takes them, which makes an entry each.
 #[test]
-fn talks_in_turn(rt: HostRuntime) -> Result<(), Fail> {
+fn each_line_of_two_conversations_is_an_entry(rt: HostRuntime) -> Result<(), Fail> {
     let alloc = rt.alloc();
     for count in LENGTHS {
-        assert_eq!(rt; entries_in_turn(alloc, count)?, 2 * count);
+        assert_eq!(rt;
+            entries_in_turn(alloc, count)?,
+            2 * count,
+            "{count} numbers"
+        );
     }
     Ok(())
 }

@@ -56,13 +56,17 @@ fn refused(alloc: Global, peer: u8) -> Result<Option<usize>, Fail> {
     }
 }
 
-// `Hub::open` says whose peer is bad: a names itself, at place 0, or no role of the two. b, at place 1, is a good one.
+// `mps_hub::Hub::open` says whose peer is bad: a names itself, at place 0, or no role of the two. b, at place 1, is a
+// good one.
 #[test]
-fn refuses_bad_peers(rt: HostRuntime) -> Result<(), Fail> {
+fn a_bad_peer_opens_no_hub(rt: HostRuntime) -> Result<(), Fail> {
     for peer in [0, 2, 255] {
-        assert!(rt; refused(rt.alloc(), peer)? == Some(0));
+        assert!(rt;
+            refused(rt.alloc(), peer)? == Some(0),
+            "the peer at place {peer}"
+        );
     }
-    assert!(rt; refused(rt.alloc(), 1)?.is_none());
+    assert!(rt; refused(rt.alloc(), 1)?.is_none(), "the peer at place 1");
     Ok(())
 }
 
@@ -76,14 +80,19 @@ fn hub(alloc: Global) -> Result<Hub, Fail>
     }
 }
 
-// What a connection comes to that sends these pieces, each of which is one read at the least.
-fn attended<R: Wait + 'static>(
+// What a connection comes to that sends these pieces, each of which is one read at the least. Other answers are a
+// failure with the first piece.
+fn attended<R: Wait + Eprint + 'static>(
     rt: &R,
     alloc: Global,
     desk: &Desk<'_>,
     pieces: Vec<Vec<u8>>,
     answers: &[u8],
 ) -> Result<Attended, Fail> {
+    let sent = match pieces.first() {
+        Some(piece) => String::from_utf8_lossy(alloc, piece.as_slice())?,
+        None => String::new(alloc),
+    };
     let mut reader = Pieces::new(pieces, None);
     let mut writer = Short::new(alloc, 99)?;
     let ended = Serving::unrecorded(rt, alloc, desk, &Unguarded).attend(
@@ -92,7 +101,7 @@ fn attended<R: Wait + 'static>(
         &mut writer,
     );
     if writer.bytes() != answers {
-        return Err("other answers".into());
+        return Err(format!(in alloc; "other answers to {sent}")?.into());
     }
     Ok(ended)
 }
@@ -117,7 +126,7 @@ fn desk_of(alloc: Global, hub: &mut Hub) -> Result<Desk<'_>, Fail>
 }
 
 // How a connection ends that joins and sends so many letters.
-fn ended_after<R: Wait + 'static>(
+fn ended_after<R: Wait + Eprint + 'static>(
     rt: &R,
     alloc: Global,
     desk: &Desk<'_>,
@@ -127,15 +136,15 @@ fn ended_after<R: Wait + 'static>(
     attended(rt, alloc, desk, pieces, b"joined 1 a\n")
 }
 
-// After 1,000,000 reads (MAX_READS), here of a letter each, a conversation ends. That its pass went back to the desk,
-// the second connection shows, which joins.
+// `mps_hub::Serving::attend`: after 1,000,000 reads (MAX_READS), here of a letter each, a conversation ends. That its
+// pass went back to the desk, the second connection shows, which joins.
 #[test]
-fn gives_a_pass_back_after_too_many_reads(rt: HostRuntime) -> Result<(), Fail> {
+fn a_pass_is_given_back_after_a_million_reads(rt: HostRuntime) -> Result<(), Fail> {
     let mut hub = hub(rt.alloc())?;
     let desk = desk_of(rt.alloc(), &mut hub)?;
     for (letters, ending) in [(1_000_001, Ending::Turns), (1, Ending::Closed)] {
         let ended = ended_after(&rt, rt.alloc(), &desk, letters)?;
-        assert!(rt; ended == Attended::Conversed(ending));
+        assert!(rt; ended == Attended::Conversed(ending), "{letters} letters");
     }
     Ok(())
 }
@@ -148,7 +157,7 @@ fn long_line(alloc: Global, letters: usize) -> Result<Vec<Vec<u8>>, Fail> {
 }
 
 // How a connection ends whose first line has so many letters, and that is answered so.
-fn ended_at<R: Wait + 'static>(
+fn ended_at<R: Wait + Eprint + 'static>(
     rt: &R,
     alloc: Global,
     desk: &Desk<'_>,
@@ -158,16 +167,22 @@ fn ended_at<R: Wait + 'static>(
     attended(rt, alloc, desk, long_line(alloc, letters)?, answers)
 }
 
-// A first line is looked for by 1,000,000 reads (MAX_READS), of one byte each: after 999,999 letters the LF is the
-// millionth byte, after one letter more it is not read.
+// `mps_hub::Serving::attend` looks for a first line by 1,000,000 reads (MAX_READS), of one byte each: after 999,999
+// letters the LF is the millionth byte, after one letter more it is not read.
 #[test]
-fn looks_for_a_first_line_in_a_million_reads(rt: HostRuntime) -> Result<(), Fail> {
+fn a_first_line_is_looked_for_in_a_million_reads(rt: HostRuntime) -> Result<(), Fail> {
     let mut hub = hub(rt.alloc())?;
     let desk = desk_of(rt.alloc(), &mut hub)?;
     let found = ended_at(&rt, rt.alloc(), &desk, 999_999, b"refused line\n")?;
-    assert!(rt; found == Attended::TurnedAway);
+    assert!(rt;
+        found == Attended::TurnedAway,
+        "the LF is the millionth byte"
+    );
     let lost = ended_at(&rt, rt.alloc(), &desk, 1_000_000, b"")?;
-    assert!(rt; lost == Attended::NoLine);
+    assert!(rt;
+        lost == Attended::NoLine,
+        "the LF comes after a million bytes"
+    );
     Ok(())
 }
 
@@ -191,7 +206,7 @@ const FIRST_LINES: &[(&[u8], &[u8])] = &[
 ];
 
 // How a connection ends that sends this line alone, and is answered so.
-fn joining<R: Wait + 'static>(
+fn joining<R: Wait + Eprint + 'static>(
     rt: &R,
     alloc: Global,
     desk: &Desk<'_>,
@@ -202,20 +217,24 @@ fn joining<R: Wait + 'static>(
     attended(rt, alloc, desk, pieces, answer)
 }
 
-// `Serving::attend` joins where the first line asks for a role of a session that there are, and else says why not.
+// `mps_hub::Serving::attend` joins where the first line asks for a role of a session that there are, and else says why
+// not.
 #[test]
-fn answers_first_lines(rt: HostRuntime) -> Result<(), Fail> {
+fn a_first_line_joins_or_is_told_why_not(rt: HostRuntime) -> Result<(), Fail> {
     let mut hub = hub(rt.alloc())?;
     let desk = desk_of(rt.alloc(), &mut hub)?;
     for (line, answer) in FIRST_LINES {
-        // another answer is a failure of `attended`, which doesn't tell the line
         joining(&rt, rt.alloc(), &desk, line, answer)?;
     }
     Ok(())
 }
 
 // Whether a's pass is refused as taken while it is, and not once it is given back.
-fn is_taken<R: Wait + 'static>(rt: &R, alloc: Global, desk: &Desk<'_>) -> Result<bool, Fail> {
+fn is_taken<R: Wait + Eprint + 'static>(
+    rt: &R,
+    alloc: Global,
+    desk: &Desk<'_>,
+) -> Result<bool, Fail> {
     let name = Name::read(b"a").ok_or("a name")?;
     let Ok(pass) = desk.take(rt, 1, &name) else {
         return Err("no pass".into());
@@ -226,11 +245,14 @@ fn is_taken<R: Wait + 'static>(rt: &R, alloc: Global, desk: &Desk<'_>) -> Result
     Ok(taken == Attended::TurnedAway && given == Attended::Conversed(Ending::Closed))
 }
 
-// Between `Desk::take` of a role's pass and `Desk::give` a connection that asks for it is answered `refused taken`.
+// `mps_hub::Desk::take` of a role's pass, till `Desk::give`: a connection that asks for it is answered `refused taken`.
 #[test]
-fn tells_that_a_pass_is_taken(rt: HostRuntime) -> Result<(), Fail> {
+fn a_pass_that_is_taken_is_refused(rt: HostRuntime) -> Result<(), Fail> {
     let mut hub = hub(rt.alloc())?;
     let desk = desk_of(rt.alloc(), &mut hub)?;
-    assert!(rt; is_taken(&rt, rt.alloc(), &desk)?);
+    assert!(rt;
+        is_taken(&rt, rt.alloc(), &desk)?,
+        "refused while it is taken, joined once it is given back"
+    );
     Ok(())
 }

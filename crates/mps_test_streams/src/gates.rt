@@ -116,7 +116,7 @@ fn has_joined(
 }
 
 // Whether a server of one session attended to so many connections, which had come before.
-fn has_served<R: Clock + Threads + Wait + Sync + 'static, G: Gate + Sync + 'static>(
+fn has_served<R: Clock + Threads + Wait + Eprint + Sync + 'static, G: Gate + Sync + 'static>(
     rt: &R,
     alloc: Global,
     listener: &TcpListener,
@@ -160,11 +160,11 @@ fn all_sent<R: Net<Stream = TcpStream>>(
     Ok(streams)
 }
 
-// Whether each of them is told what it has to be.
+// Whether each of them is told what it has to be. One that isn't is the failure.
 fn have_joined(alloc: Global, streams: Vec<TcpStream>, clients: &[Client]) -> Result<bool, Fail> {
     for (stream, client) in streams.into_iter().zip(clients) {
         if !has_joined(alloc, stream, client.1, client.2, client.3)? {
-            return Ok(false);
+            return Err(String::from_utf8_lossy(alloc, client.0)?.into());
         }
     }
     Ok(true)
@@ -172,7 +172,13 @@ fn have_joined(alloc: Global, streams: Vec<TcpStream>, clients: &[Client]) -> Re
 
 // Whether a server of the hub attends to the clients, which have come before, and tells each what it has to.
 fn has_told<
-    R: Net<Listener = TcpListener, Stream = TcpStream> + Clock + Threads + Wait + Sync + 'static,
+    R: Net<Listener = TcpListener, Stream = TcpStream>
+        + Clock
+        + Threads
+        + Wait
+        + Eprint
+        + Sync
+        + 'static,
     G: Gate + Sync + 'static,
 >(rt: &R, alloc: Global, hub: &mut Hub, clients: &[Client], gate: &G) -> Result<bool, Fail>
     requires { hub.old.given ≡ false }
@@ -185,7 +191,13 @@ fn has_told<
 
 // How many entries a new session of two pairs has after that.
 fn entries_after<
-    R: Net<Listener = TcpListener, Stream = TcpStream> + Clock + Threads + Wait + Sync + 'static,
+    R: Net<Listener = TcpListener, Stream = TcpStream>
+        + Clock
+        + Threads
+        + Wait
+        + Eprint
+        + Sync
+        + 'static,
     G: Gate + Sync + 'static,
 >(rt: &R, alloc: Global, clients: &[Client], gate: &G) -> Result<Option<u64>, Fail> {
     let mut hub = hub_of_pairs(alloc)?;
@@ -202,7 +214,8 @@ const TWO: &[Client] = &[
     (b"join 1 c\nsend d 2\n", b"joined 1 c\ndone ", 2, b"\n"),
 ];
 
-// `serve_with` attends to two connections at once: each waits at the gate till the other is there, and both are done.
+// `mps_hub::serve_with` attends to two connections at once: each waits at the gate till the other is there, and both
+// are done.
 #[test]
 fn two_connections_meet_at_the_gate(rt: HostRuntime) -> Result<(), Fail> {
     let gate = Meeting {
@@ -210,8 +223,9 @@ fn two_connections_meet_at_the_gate(rt: HostRuntime) -> Result<(), Fail> {
         second: AtomicU64::new(0),
         met: AtomicU64::new(0),
     };
-    assert!(rt; entries_after(&rt, rt.alloc(), TWO, &gate)? == Some(2));
-    assert!(rt; gate.met.load(SeqCst) == 2);
+    let entries = entries_after(&rt, rt.alloc(), TWO, &gate)?;
+    assert_eq!(rt; entries, Some(2), "the entries of both clients");
+    assert_eq!(rt; gate.met.load(SeqCst), 2, "the connections that have met");
     Ok(())
 }
 
@@ -257,12 +271,14 @@ const FOUR: &[Client] = &[
     ),
 ];
 
-// `serve_with` attends to four connections at once: b and d come first, and are held till what they receive is sent.
+// `mps_hub::serve_with` attends to four connections at once: b and d come first, and are held till what they receive is
+// sent.
 #[test]
 fn four_clients_share_a_session(rt: HostRuntime) -> Result<(), Fail> {
     let gate = Order {
         sent: AtomicU64::new(0),
     };
-    assert!(rt; entries_after(&rt, rt.alloc(), FOUR, &gate)? == Some(4));
+    let entries = entries_after(&rt, rt.alloc(), FOUR, &gate)?;
+    assert_eq!(rt; entries, Some(4), "the entries of all four clients");
     Ok(())
 }

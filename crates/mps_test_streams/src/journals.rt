@@ -62,28 +62,39 @@ fn is_read(
     }
 }
 
-// `read_journal_line` reads a role, a number if there is one, and a change; any other line is `Bad`.
+// `mps_line::read_journal_line` reads a role, a number if there is one, and a change; any other line is `Bad`.
 #[test]
-fn reads_lines(rt: HostRuntime) -> Result<(), Fail> {
+fn a_line_of_a_journal_has_role_number_and_change(rt: HostRuntime) -> Result<(), Fail> {
     let roles = names(rt.alloc(), 3)?;
     for (line, found) in LINES {
-        assert!(rt; is_read(rt.alloc(), &roles, line, *found)?, "{line}");
+        assert!(rt;
+            is_read(rt.alloc(), &roles, line, *found)?,
+            "what `{line}` is read as"
+        );
     }
     Ok(())
 }
 
-// `write_journal_line` appends the line without an LF, here after a `|` and then after the first line.
+// `mps_line::write_journal_line` appends the line without an LF, here after a `|` and then after the first line.
 #[test]
-fn writes_lines(rt: HostRuntime) -> Result<(), Fail> {
+fn a_line_of_a_journal_is_appended(rt: HostRuntime) -> Result<(), Fail> {
     let alloc = rt.alloc();
     let roles = names(alloc, 3)?;
     let mut text = Vec::from_slice(alloc, b"|")?;
     let undo = Command::Undo(StepId::new(3));
     write_journal_line(&roles, Role::new(2), Some(7), &undo, &mut text)?;
-    assert!(rt; text.as_slice() == b"|c 7 undo 3".as_slice());
+    assert_eq!(rt;
+        text.as_slice(),
+        b"|c 7 undo 3".as_slice(),
+        "c's undo, after the `|`"
+    );
     let commit = Command::Forward(Forward::Commit);
     write_journal_line(&roles, Role::new(0), None, &commit, &mut text)?;
-    assert!(rt; text.as_slice() == b"|c 7 undo 3a commit".as_slice());
+    assert_eq!(rt;
+        text.as_slice(),
+        b"|c 7 undo 3a commit".as_slice(),
+        "a's commit, after the first line"
+    );
     Ok(())
 }
 
@@ -153,17 +164,23 @@ fn kept_by(alloc: Global, lines: u64, space: usize) -> Result<Kept, Fail> {
     })
 }
 
-// A `Guest` with a `Book` records just the accepted changes, each once, with their numbers, and tells all answers.
+// `mps_keeper::Guest` with a `Book` records just the accepted changes, each once, with their numbers, and tells all
+// answers.
 #[test]
-fn keeps_what_is_accepted(rt: HostRuntime) -> Result<(), Fail> {
+fn just_what_is_accepted_is_recorded(rt: HostRuntime) -> Result<(), Fail> {
     // a book without lines, with room for more bytes than all lines have
     let kept = kept_by(rt.alloc(), 0, 2_000)?;
-    assert!(rt; kept.ending == Ending::Closed && kept.is_whole);
-    assert!(rt; kept.lines.as_slice() == SEALED);
-    assert!(rt; kept.told.starts_with(b"done 1\ndone 1\nrefused nostep\n{"));
+    assert!(rt; kept.ending == Ending::Closed, "the conversation is closed");
+    assert!(rt; kept.is_whole, "each line is kept");
+    assert_eq!(rt; kept.lines.as_slice(), SEALED, "the lines with their seals");
+    assert!(rt;
+        kept.told.starts_with(b"done 1\ndone 1\nrefused nostep\n{"),
+        "the first answers"
+    );
     assert!(rt;
         kept.told
-            .ends_with(b"}\ndone 2\ndone 3\ndone 2\nrefused line\nundone 3\n")
+            .ends_with(b"}\ndone 2\ndone 3\ndone 2\nrefused line\nundone 3\n"),
+        "the last answers"
     );
     Ok(())
 }
@@ -184,20 +201,24 @@ fn is_cut(alloc: Global, space: usize) -> Result<bool, Fail> {
     Ok(is_untold && is_front && answers == wanted)
 }
 
-// A `Book` that has 5 lines takes no line of entry 1: nothing is recorded, nothing told, and the end is `Untold`.
+// `mps_keeper::Book` that has 5 lines takes no line of entry 1: nothing is recorded, nothing told, and the end is
+// `Untold`.
 #[test]
-fn loses_a_line_out_of_order(rt: HostRuntime) -> Result<(), Fail> {
+fn a_line_out_of_order_is_neither_kept_nor_told(rt: HostRuntime) -> Result<(), Fail> {
     let kept = kept_by(rt.alloc(), 5, 2_000)?;
-    assert!(rt; kept.ending == Ending::Untold && !kept.is_whole);
-    assert!(rt; kept.lines.is_empty() && kept.told.is_empty());
+    assert!(rt; kept.ending == Ending::Untold, "the end is untold");
+    assert!(rt; !kept.is_whole, "a line was lost");
+    assert_eq!(rt; kept.lines.len(), 0, "the bytes that are kept");
+    assert_eq!(rt; kept.told.len(), 0, "the bytes that are told");
     Ok(())
 }
 
-// A `Guest` tells no answer whose line its `Book` doesn't take whole, and none after it, wherever the room ends.
+// `mps_keeper::Guest` tells no answer whose line its `Book` doesn't take whole, and none after it, wherever the room
+// ends.
 #[test]
-fn tells_nothing_that_is_not_kept(rt: HostRuntime) -> Result<(), Fail> {
+fn nothing_is_told_that_is_not_kept(rt: HostRuntime) -> Result<(), Fail> {
     for space in 0..SEALED.len() {
-        assert!(rt; is_cut(rt.alloc(), space)?, "{space}");
+        assert!(rt; is_cut(rt.alloc(), space)?, "with room for {space} bytes");
     }
     Ok(())
 }
@@ -217,6 +238,10 @@ impl Recorder for Waits {
     ghost taken = { λ _. None };
 
     ghost whole = { λ w. w.is_whole };
+
+    ghost Place = { Unit {0} };
+
+    ghost place = { λ _. tt };
 
     fn records(&self) -> bool {
         true
@@ -257,25 +282,32 @@ fn waited_for(alloc: Global, lines: &[u8]) -> Result<u64, Fail> {
     }
 }
 
-// Before a `Guest` tells the answer to a question, or a refusal, it waits (`settle`) till the entries that its caller
-// saw are recorded. The line of a step is added instead.
+// `mps_keeper::Guest` waits (`settle`) before it tells the answer to a question, or a refusal, till the entries that
+// its caller saw are recorded. The line of a step is added instead.
 #[test]
-fn waits_for_what_it_tells_of(rt: HostRuntime) -> Result<(), Fail> {
+fn an_answer_waits_till_what_it_tells_of_is_kept(rt: HostRuntime) -> Result<(), Fail> {
     let alloc = rt.alloc();
-    assert!(rt; waited_for(alloc, b"mark m\n")? == 0);
-    assert!(rt; waited_for(alloc, b"mark m\nnews 0\n")? == 1);
-    assert!(rt; waited_for(alloc, b"mark m\nmark m\nundo 9\n")? == 2);
+    let waited = waited_for(alloc, b"mark m\n")?;
+    assert_eq!(rt; waited, 0, "the lines waited for, of a step");
+    let waited = waited_for(alloc, b"mark m\nnews 0\n")?;
+    assert_eq!(rt; waited, 1, "the lines waited for, of a question");
+    let waited = waited_for(alloc, b"mark m\nmark m\nundo 9\n")?;
+    assert_eq!(rt; waited, 2, "the lines waited for, of a refusal");
     Ok(())
 }
 
-// A new `Guest` waits till the entry that its caller saw before is recorded.
+// `mps_keeper::Guest` that is new waits till the entry that its caller saw before is recorded.
 #[test]
-fn waits_for_what_was_shown_before(rt: HostRuntime) -> Result<(), Fail> {
+fn a_new_guest_waits_till_what_was_shown_is_kept(rt: HostRuntime) -> Result<(), Fail> {
     let alloc = rt.alloc();
     let mut caller = solo(alloc, 0)?;
     let _marked = caller.call(Command::Forward(Forward::Commit));
-    assert!(rt; caller.room.entries() == 1);
-    assert!(rt; waiting(alloc, caller).recorder.lines == 1);
+    assert_eq!(rt; caller.room.entries(), 1, "the entries before the guest");
+    assert_eq!(rt;
+        waiting(alloc, caller).recorder.lines,
+        1,
+        "the lines waited for, of a new guest"
+    );
     Ok(())
 }
 
@@ -380,11 +412,15 @@ fn is_restored(
     Ok(restored.map(|r| (r.lines, r.bytes)) == comes)
 }
 
-// `restore_lines` gives each whole line to its role's caller, and names the first line that isn't accepted, from 1.
+// `mps_keeper::RestoredRoom::restore_lines` gives each whole line to its role's caller, and names the first line that
+// isn't accepted, from 1.
 #[test]
-fn restores_texts(rt: HostRuntime) -> Result<(), Fail> {
+fn a_text_is_restored_up_to_its_first_bad_line(rt: HostRuntime) -> Result<(), Fail> {
     for (text, comes) in TEXTS {
-        assert!(rt; is_restored(rt.alloc(), text, *comes)?, "{text}");
+        assert!(rt;
+            is_restored(rt.alloc(), text, *comes)?,
+            "what `{text}` restores"
+        );
     }
     Ok(())
 }
@@ -397,13 +433,17 @@ fn newest(room: &RestoredRoom) -> [u64; 3] {
     }
 }
 
-// After `restore_lines` each role has its newest number, and the room the four entries of `KEPT`.
+// `mps_keeper::RestoredRoom::restore_lines` gives each role its newest number, and the room the four entries of `KEPT`.
 #[test]
-fn restores_numbers(rt: HostRuntime) -> Result<(), Fail> {
+fn numbers_and_entries_are_restored(rt: HostRuntime) -> Result<(), Fail> {
     let alloc = rt.alloc();
     let mut room = relay(alloc)?;
-    assert!(rt; room.restore_lines(alloc, first(alloc)?, KEPT).is_ok());
-    assert!(rt; room.room.entries() == 4 && newest(&room) == [3, 0, 0]);
+    assert!(rt;
+        room.restore_lines(alloc, first(alloc)?, KEPT).is_ok(),
+        "all lines are accepted"
+    );
+    assert_eq!(rt; room.room.entries(), 4, "the count of entries");
+    assert_eq!(rt; newest(&room), [3, 0, 0], "the newest numbers of a, b, c");
     Ok(())
 }
 
@@ -426,33 +466,41 @@ fn lines_of(alloc: Global, room: &Room) -> Result<Vec<u8>, Fail> {
     Ok(text)
 }
 
+// `mps_keeper::RestoredRoom::restore_lines` keeps the order of lines of several roles, and the newest number of each: 2
+// of a and b, none of c.
 #[test]
-fn restores_roles_in_order(rt: HostRuntime) -> Result<(), Fail> {
+fn lines_of_several_roles_are_restored_in_order(rt: HostRuntime) -> Result<(), Fail> {
     let alloc = rt.alloc();
     let mut room = relay(alloc)?;
-    assert!(rt; room.restore_lines(alloc, first(alloc)?, MIXED).is_ok());
+    assert!(rt;
+        room.restore_lines(alloc, first(alloc)?, MIXED).is_ok(),
+        "all lines are accepted"
+    );
     let wanted: &[u8] = b"a send b 5\nb mark m\na mark k\nb recv a x\nc mark n\n";
-    assert!(rt; lines_of(alloc, &room.room)?.as_slice() == wanted);
-    assert!(rt; newest(&room) == [2, 2, 0]);
+    let lines = lines_of(alloc, &room.room)?;
+    assert_eq!(rt; lines.as_slice(), wanted, "the entries in order");
+    assert_eq!(rt; newest(&room), [2, 2, 0], "the newest numbers of a, b, c");
     Ok(())
 }
 
-// What a book wrote after its mark is read again.
+// `mps_keeper::Book`: what it wrote after its mark is a sealed line, which is read again.
 #[test]
-fn reads_what_was_recorded(rt: HostRuntime) -> Result<(), Fail> {
+fn what_was_recorded_is_read_again(rt: HostRuntime) -> Result<(), Fail> {
     let alloc = rt.alloc();
     let mut book = Book::new(Short::new(alloc, 100)?, 0, first(alloc)?);
-    assert!(rt; book.mark(alloc).is_ok());
+    assert!(rt; book.mark(alloc).is_ok(), "the mark is written");
     book.add(1, &mut Vec::from_slice(alloc, b"a send b 5")?);
     let wanted: &[u8] = b" 7b9610c3358da3ab\na send b 5 9cd97bcda52a45db\n";
-    assert!(rt; book.is_whole() && book.lines() == 1 && book.sink().bytes() == wanted);
+    assert!(rt; book.is_whole(), "the book has each line");
+    assert_eq!(rt; book.lines(), 1, "the count of lines");
+    assert_eq!(rt; book.sink().bytes(), wanted, "one line, after the mark");
     Ok(())
 }
 
 // ---- sessions
 
 // What a connection is answered that sends these lines.
-fn answers<R: Wait + 'static>(
+fn answers<R: Wait + Eprint + 'static>(
     rt: &R,
     alloc: Global,
     desk: &Desk<'_>,
@@ -472,7 +520,7 @@ fn answers<R: Wait + 'static>(
 }
 
 // Whether a connection that sends these lines is answered so.
-fn is_told<R: Wait + 'static>(
+fn is_told<R: Wait + Eprint + 'static>(
     rt: &R,
     alloc: Global,
     desk: &Desk<'_>,
@@ -517,20 +565,21 @@ fn hub(alloc: Global) -> Result<Hub, Fail>
     Ok(Hub::of_restored(alloc, &names, 2, vec![in alloc; room]?)?)
 }
 
-// Once a session is restored, a repeats its last line and goes on, and b hears of it.
+// `mps_hub::Desk` of a restored session: a repeats its last line and goes on, and b hears of it.
 #[test]
-fn sessions_go_on(rt: HostRuntime) -> Result<(), Fail> {
+fn a_restored_session_goes_on(rt: HostRuntime) -> Result<(), Fail> {
     let alloc = rt.alloc();
     let mut hub = hub(alloc)?;
     let desk = hub.desk(alloc)?;
-    assert!(rt; is_told(&rt, alloc, &desk, BY_A, TOLD_A)?);
-    assert!(rt; is_told(&rt, alloc, &desk, BY_B, TOLD_B)?);
+    assert!(rt; is_told(&rt, alloc, &desk, BY_A, TOLD_A)?, "what a is told");
+    assert!(rt; is_told(&rt, alloc, &desk, BY_B, TOLD_B)?, "what b is told");
     Ok(())
 }
 
-// `Desk::restore` names the first line that isn't accepted, here for a wrong peer, though the next is unreadable.
+// `mps_hub::Desk::restore` names the first line that isn't accepted, here for a wrong peer, though the next is
+// unreadable.
 #[test]
-fn names_the_first_bad_line(rt: HostRuntime) -> Result<(), Fail> {
+fn the_first_bad_line_is_named(rt: HostRuntime) -> Result<(), Fail> {
     let alloc = rt.alloc();
     let mut room = relay(alloc)?;
     let mut lines = OverRead::new(b"a send b 5\nb recv c x\nund\n".as_slice());
@@ -538,7 +587,8 @@ fn names_the_first_bad_line(rt: HostRuntime) -> Result<(), Fail> {
     assert!(rt;
         room.restore_from(alloc, first(alloc)?, &mut lines)
             .map(|r| r.lines)
-            == Err(fault)
+            == Err(fault),
+        "line 2 is refused"
     );
     Ok(())
 }

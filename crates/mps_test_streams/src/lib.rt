@@ -14,6 +14,8 @@ mod gates;
 #[cfg(test)]
 mod journals;
 #[cfg(test)]
+mod other_types;
+#[cfg(test)]
 mod pieces;
 #[cfg(test)]
 mod protocols;

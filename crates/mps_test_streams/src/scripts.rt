@@ -6,19 +6,18 @@ use crate::pieces::{
     Way, add_line, cut_long_line, empty_lines, fails_from, in_one_piece, in_pieces,
     in_single_bytes, in_two_pieces, refused_lines, room, told_by,
 };
-use crate::protocols::{RELAY, name, names, opened, types};
+use crate::protocols::{RELAY, names, opened, types};
 use mps_base::{Role, Sort, VarName};
 use mps_dev::{Pieces, Short, Source};
 use mps_lines::MAX_LINE;
-use mps_local::{Branches, Local};
-use mps_session::{LocalFault, OpenFault};
+use mps_local::Local;
 use mps_wire::script::SCRIPT_BLOCK;
 use mps_wire::{ReplayFault, replay, replay_session};
 use std::alloc::Global;
 use std::test::Fail;
 
 // A relay's script, and the answers to its lines.
-const SCRIPT: &str = "a send b 5\nb recv a x\nb send c 7\nc recv b y\n";
+pub(crate) const SCRIPT: &str = "a send b 5\nb recv a x\nb send c 7\nc recv b y\n";
 
 const ANSWERS: &str = "done 1\ndone 2 5\ndone 3\ndone 4 7\n";
 
@@ -58,7 +57,7 @@ fn outcome(
 }
 
 // Whether the run with these types ends so, with these bytes written.
-fn comes_to(
+pub(crate) fn comes_to(
     alloc: Global,
     types: Vec<Local>,
     pieces: Vec<Vec<u8>>,
@@ -118,11 +117,14 @@ const EACH_LINE: &[(&str, &str)] = &[
     ("a send b é\na send b 5\r\n", "refused line\nrefused line\n"),
 ];
 
-// `replay` answers each line as a room does, in order, and an unreadable one with `refused line`.
+// `mps_wire::replay` answers each line as a room does, in order, and an unreadable one with `refused line`.
 #[test]
-fn answers_each_line(rt: HostRuntime) -> Result<(), Fail> {
+fn each_line_of_a_script_is_answered_in_order(rt: HostRuntime) -> Result<(), Fail> {
     for (script, want) in EACH_LINE {
-        assert!(rt; is_answered(rt.alloc(), script, want)?, "{script}");
+        assert!(rt;
+            is_answered(rt.alloc(), script, want)?,
+            "the answers to `{script}`"
+        );
     }
     Ok(())
 }
@@ -173,9 +175,9 @@ fn told_in_all(alloc: Global, at: usize) -> Result<Vec<u8>, Fail> {
     Ok(told)
 }
 
-// `replay` writes the same answers in whatever two pieces the script comes.
+// `mps_wire::replay` writes the same answers in whatever two pieces the script comes.
 #[test]
-fn answers_in_any_two_pieces(rt: HostRuntime) -> Result<(), Fail> {
+fn any_two_pieces_are_answered_alike(rt: HostRuntime) -> Result<(), Fail> {
     let told = told_in_all(rt.alloc(), ASKED.len())?;
     for at in 0..ASKED.len() + 1 {
         let pieces = in_two_pieces(rt.alloc(), ASKED, at)?;
@@ -200,9 +202,9 @@ fn is_answered_up_to(alloc: Global, at: usize) -> Result<bool, Fail> {
     )
 }
 
-// `replay` takes a last line that no LF ends as a line, wherever the script ends.
+// `mps_wire::replay` takes a last line that no LF ends as a line, wherever the script ends.
 #[test]
-fn answers_up_to_any_byte(rt: HostRuntime) -> Result<(), Fail> {
+fn a_last_line_without_an_lf_is_answered(rt: HostRuntime) -> Result<(), Fail> {
     for at in 0..ASKED.len() + 1 {
         assert!(rt; is_answered_up_to(rt.alloc(), at)?, "ended at {at}");
     }
@@ -223,25 +225,25 @@ fn stops_after_reads(alloc: Global, at: usize) -> Result<bool, Fail> {
     )
 }
 
-// `replay` has answered the whole lines before the read that fails, and says that a read failed.
+// `mps_wire::replay` has answered the whole lines before the read that fails, and says that a read failed.
 #[test]
-fn stops_where_a_read_fails(rt: HostRuntime) -> Result<(), Fail> {
+fn whole_lines_are_answered_before_a_read_that_fails(rt: HostRuntime) -> Result<(), Fail> {
     for at in 0..ASKED.len() + 1 {
         assert!(rt; stops_after_reads(rt.alloc(), at)?, "failed after {at}");
     }
     Ok(())
 }
 
-// `replay` has written its answers up to the write that fails, each byte once, and says that a write failed.
+// `mps_wire::replay` has written its answers up to the write that fails, each byte once, and says that a write failed.
 #[test]
-fn stops_where_a_write_fails(rt: HostRuntime) -> Result<(), Fail> {
+fn answers_are_written_up_to_a_write_that_fails(rt: HostRuntime) -> Result<(), Fail> {
     let told = told_in_all(rt.alloc(), ASKED.len())?;
     for space in 0..told.len() {
         let pieces = in_one_piece(rt.alloc(), ASKED)?;
         let fault = Some(ReplayFault::WriteFault);
         assert!(rt;
             relays(rt.alloc(), pieces, room(space), &told[..space], fault)?,
-            "{space}"
+            "with room for {space} bytes"
         );
     }
     Ok(())
@@ -289,10 +291,13 @@ fn are_answered(alloc: Global, protocol: &str, rows: &[(&str, &str)]) -> Result<
     )
 }
 
-// `replay` answers the lines of a protocol with a loop and a choice as its types allow.
+// `mps_wire::replay` answers the lines of a protocol with a loop and a choice as its types allow.
 #[test]
-fn follows_loops_and_choices(rt: HostRuntime) -> Result<(), Fail> {
-    assert!(rt; are_answered(rt.alloc(), TALK, CHOSEN)?);
+fn a_script_follows_a_loop_and_a_choice(rt: HostRuntime) -> Result<(), Fail> {
+    assert!(rt;
+        are_answered(rt.alloc(), TALK, CHOSEN)?,
+        "the lines of a loop and a choice"
+    );
     Ok(())
 }
 
@@ -319,13 +324,19 @@ fn counted(alloc: Global, numbers: u32) -> Result<Outcome, Fail> {
     outcome(alloc, types, pieces, room(2_000_000))
 }
 
-// A journal has 100,000 entries at most: of 100,001 sends the last is refused.
+// `mps_wire::replay` has a journal of 100,000 entries at most: of 100,001 sends the last is refused.
 #[test]
-fn is_full_after_a_hundred_thousand_numbers(rt: HostRuntime) -> Result<(), Fail> {
+fn the_100_001st_send_is_refused_as_full(rt: HostRuntime) -> Result<(), Fail> {
     let (written, fault) = counted(rt.alloc(), 100_001)?;
-    assert_eq!(rt; fault, None);
-    assert!(rt; written.starts_with(b"done 1\ndone 2\n"));
-    assert!(rt; written.ends_with(b"done 99999\ndone 100000\nrefused full\n"));
+    assert_eq!(rt; fault, None, "no fault");
+    assert!(rt;
+        written.starts_with(b"done 1\ndone 2\n"),
+        "the first answers"
+    );
+    assert!(rt;
+        written.ends_with(b"done 99999\ndone 100000\nrefused full\n"),
+        "the last answers"
+    );
     Ok(())
 }
 
@@ -356,10 +367,10 @@ fn is_long_in_two(alloc: Global, length: usize) -> Result<bool, Fail> {
     relays(alloc, pieces, room(200), LONG_ANSWERED, None)
 }
 
-// `replay` refuses each long line once, and answers the next. Lines have 512 bytes (MAX_LINE) at most, and a block
-// 65,536 (SCRIPT_BLOCK). The limit itself this can't show: so many `a` spell nothing.
+// `mps_wire::replay` refuses each long line once, and answers the next. Lines have 512 bytes (MAX_LINE) at most, and a
+// block 65,536 (SCRIPT_BLOCK). The limit itself this can't show: so many `a` spell nothing.
 #[test]
-fn answers_long_lines(rt: HostRuntime) -> Result<(), Fail> {
+fn a_long_line_is_refused_once(rt: HostRuntime) -> Result<(), Fail> {
     for length in [
         MAX_LINE,
         MAX_LINE + 1,
@@ -367,12 +378,12 @@ fn answers_long_lines(rt: HostRuntime) -> Result<(), Fail> {
         SCRIPT_BLOCK + 1,
         1_000_001,
     ] {
-        assert!(rt; is_long(rt.alloc(), length)?, "of {length}");
+        assert!(rt; is_long(rt.alloc(), length)?, "a line of {length} bytes");
     }
     for length in [MAX_LINE, MAX_LINE + 1, 100_000] {
         assert!(rt;
             is_long_in_two(rt.alloc(), length)?,
-            "of {length} in two pieces"
+            "a line of {length} bytes in two pieces"
         );
     }
     Ok(())
@@ -429,11 +440,16 @@ fn stops(alloc: Global, row: &Stop) -> Result<bool, Fail> {
     relays(alloc, pieces, way, want.as_bytes(), Some(fault_of(*device)))
 }
 
-// `replay` says which device failed. It has written the answers to the lines read before, as far as they were taken.
+// `mps_wire::replay` says which device failed. It has written the answers to the lines read before, as far as they were
+// taken.
 #[test]
-fn ends_at_faults(rt: HostRuntime) -> Result<(), Fail> {
+fn the_device_that_failed_is_told(rt: HostRuntime) -> Result<(), Fail> {
     for row in STOPS {
-        assert!(rt; stops(rt.alloc(), row)?, "{}", row.3);
+        assert!(rt;
+            stops(rt.alloc(), row)?,
+            "the end after the answers `{}`",
+            row.3
+        );
     }
     Ok(())
 }
@@ -471,9 +487,9 @@ fn has_all(alloc: Global) -> Result<bool, Fail> {
     relays(alloc, a_block_and_a_byte(alloc)?, way, &answers, None)
 }
 
-// `replay` reads 65,536 bytes (SCRIPT_BLOCK) at once, and answers their lines before the next read.
+// `mps_wire::replay` reads 65,536 bytes (SCRIPT_BLOCK) at once, and answers their lines before the next read.
 #[test]
-fn reads_a_block_at_a_time(rt: HostRuntime) -> Result<(), Fail> {
+fn a_block_is_answered_before_the_next_read(rt: HostRuntime) -> Result<(), Fail> {
     assert!(rt; has_first(rt.alloc())?, "the lines of the first block");
     assert!(rt; has_all(rt.alloc())?, "all lines");
     Ok(())
@@ -496,13 +512,20 @@ fn ends_after_lines(
     )
 }
 
-// `replay` reads MAX_READS times, 1,000,000, and then ends as `Turns`, unless the last of these reads found the end.
+// `mps_wire::replay` reads MAX_READS times, 1,000,000, and then ends as `Turns`, unless the last of these reads found
+// the end.
 #[test]
-fn stops_after_a_million_reads(rt: HostRuntime) -> Result<(), Fail> {
+fn a_script_ends_after_a_million_reads(rt: HostRuntime) -> Result<(), Fail> {
     let turns = Some(ReplayFault::Turns);
-    assert!(rt; ends_after_lines(rt.alloc(), 1_000_001, 1_000_000, turns)?);
+    assert!(rt;
+        ends_after_lines(rt.alloc(), 1_000_001, 1_000_000, turns)?,
+        "a million lines and one more"
+    );
     // 999,999 lines, and the millionth read finds the end
-    assert!(rt; ends_after_lines(rt.alloc(), 999_999, 999_999, None)?);
+    assert!(rt;
+        ends_after_lines(rt.alloc(), 999_999, 999_999, None)?,
+        "999,999 lines"
+    );
     Ok(())
 }
 
@@ -534,12 +557,17 @@ fn left_unread(alloc: Global) -> Result<(Option<ReplayFault>, Vec<u8>), Fail> {
     Ok((fault, left(alloc, &mut reader)?))
 }
 
-// `replay` writes the answers to what it has read before it reads on: where there is no room, the second line is left.
+// `mps_wire::replay` writes the answers to what it has read before it reads on: where there is no room, the second line
+// is left.
 #[test]
-fn answers_before_it_reads_on(rt: HostRuntime) -> Result<(), Fail> {
+fn answers_are_written_before_the_next_read(rt: HostRuntime) -> Result<(), Fail> {
     let (fault, rest) = left_unread(rt.alloc())?;
-    assert_eq!(rt; fault, Some(ReplayFault::WriteFault));
-    assert!(rt; rest.as_slice() == b"b recv a x\n".as_slice());
+    assert_eq!(rt; fault, Some(ReplayFault::WriteFault), "the writer is full");
+    assert_eq!(rt;
+        rest.as_slice(),
+        b"b recv a x\n".as_slice(),
+        "the second line is left"
+    );
     Ok(())
 }
 
@@ -602,200 +630,12 @@ fn leaves(alloc: Global, row: &OnASession) -> Result<bool, Fail> {
     Ok(writer.bytes() == row.3.as_bytes() && left == want)
 }
 
-// `replay_session` runs a script on a given session, and gives the room, with an entry for each accepted change.
+// `mps_wire::replay_session` runs a script on a given session, and gives the room, with an entry for each accepted
+// change.
 #[test]
-fn runs_on_a_session_that_is_handed_in(rt: HostRuntime) -> Result<(), Fail> {
+fn a_script_runs_on_a_given_session(rt: HostRuntime) -> Result<(), Fail> {
     for row in ON_A_SESSION {
-        assert!(rt; leaves(rt.alloc(), row)?, "{}", row.0);
+        assert!(rt; leaves(rt.alloc(), row)?, "the room after `{}`", row.0);
     }
-    Ok(())
-}
-
-// ---- other types
-
-// Whether the second line of the script is a mismatch, with these types.
-fn mismatches(alloc: Global, a: Local, b: Local, script: &str) -> Result<bool, Fail> {
-    let types = vec![in alloc; a, b]?;
-    let want = b"done 1\nrefused mismatch\n";
-    comes_to(
-        alloc,
-        types,
-        in_one_piece(alloc, script)?,
-        room(200),
-        want,
-        None,
-    )
-}
-
-// A type that gives b an int.
-fn gives(alloc: Global) -> Result<Local, Fail> {
-    Ok(Local::send(alloc, Role::new(1), Sort::Int, Local::End)?)
-}
-
-// A type that tells b `maybe`.
-fn tells(alloc: Global) -> Result<Local, Fail> {
-    let branches = Branches::more(alloc, name("maybe")?, Local::End, Branches::NoMore)?;
-    Ok(Local::Select {
-        peer: Role::new(1),
-        branches,
-    })
-}
-
-// A type that picks `go` or `stop` of a.
-fn picks(alloc: Global) -> Result<Local, Fail> {
-    let stop = Branches::more(alloc, name("stop")?, Local::End, Branches::NoMore)?;
-    let branches = Branches::more(alloc, name("go")?, Local::End, stop)?;
-    Ok(Local::Branch {
-        peer: Role::new(0),
-        branches,
-    })
-}
-
-// A type that takes a text of a.
-fn takes(alloc: Global) -> Result<Local, Fail> {
-    Ok(Local::recv(alloc, Role::new(0), Sort::Text, Local::End)?)
-}
-
-// Whether a value is refused where one of another sort is expected.
-fn refuses_a_value(alloc: Global) -> Result<bool, Fail> {
-    let script = "a send b 5\nb recv a x\n";
-    mismatches(alloc, gives(alloc)?, takes(alloc)?, script)
-}
-
-// Whether a value is refused where a label is expected.
-fn refuses_a_value_for_a_label(alloc: Global) -> Result<bool, Fail> {
-    let script = "a send b 5\nb pick a\n";
-    mismatches(alloc, gives(alloc)?, picks(alloc)?, script)
-}
-
-// Whether a label is refused that is none of those expected.
-fn refuses_a_label(alloc: Global) -> Result<bool, Fail> {
-    let script = "a choose b maybe\nb pick a\n";
-    mismatches(alloc, tells(alloc)?, picks(alloc)?, script)
-}
-
-// `replay` answers `mismatch` to a receipt or a pick where types don't fit each other, as those of a protocol do.
-#[test]
-fn refuses_a_message_of_another_kind(rt: HostRuntime) -> Result<(), Fail> {
-    assert!(rt; refuses_a_value(rt.alloc())?);
-    assert!(rt; refuses_a_value_for_a_label(rt.alloc())?);
-    assert!(rt; refuses_a_label(rt.alloc())?);
-    Ok(())
-}
-
-// a gives b a text, a text and an int, and b gives a two bools.
-const EACH_SORT: &str =
-    "roles a b ; a -> b : text . b -> a : bool . a -> b : text . b -> a : bool . a -> b : int . end";
-
-// Each value, the empty text and the least int, -2^63, among them, is sent and received.
-const SORTS_ASKED: &str = "a send b \"good day\"\nb recv a x\nb send a true\na recv b y\n\
-    a send b \"\"\nb recv a x\nb send a false\na recv b z\n\
-    a send b -9223372036854775808\nb recv a x\n";
-
-// What is received is told as it was sent.
-const SORTS_TOLD: &[u8] = b"done 1\ndone 2 \"good day\"\ndone 3\ndone 4 true\n\
-    done 5\ndone 6 \"\"\ndone 7\ndone 8 false\n\
-    done 9\ndone 10 -9223372036854775808\n";
-
-// Whether these pieces are answered so.
-fn are_passed(alloc: Global, pieces: Vec<Vec<u8>>) -> Result<bool, Fail> {
-    let types = types(alloc, EACH_SORT)?;
-    comes_to(alloc, types, pieces, room(200), SORTS_TOLD, None)
-}
-
-// `replay` passes values of each sort on unchanged, in one piece and in single bytes.
-#[test]
-fn passes_values_of_each_sort(rt: HostRuntime) -> Result<(), Fail> {
-    let whole = in_one_piece(rt.alloc(), SORTS_ASKED)?;
-    assert!(rt; are_passed(rt.alloc(), whole)?);
-    let single = in_single_bytes(rt.alloc(), SORTS_ASKED)?;
-    assert!(rt; are_passed(rt.alloc(), single)?);
-    Ok(())
-}
-
-// The end, and before it so many outputs to that peer.
-fn sends(alloc: Global, peer: u8, count: usize) -> Result<Local, Fail> {
-    let mut t = Local::End;
-    for _ in 0..count {
-        t = Local::send(alloc, Role::new(peer), Sort::Int, t)?;
-    }
-    Ok(t)
-}
-
-// Whether no session opens for a script with these types, for this fault.
-fn is_not_opened(alloc: Global, a: Local, b: Local, fault: OpenFault) -> Result<bool, Fail> {
-    let types = vec![in alloc; a, b]?;
-    let pieces = in_one_piece(alloc, SCRIPT)?;
-    comes_to(
-        alloc,
-        types,
-        pieces,
-        room(200),
-        b"",
-        Some(ReplayFault::Open(fault)),
-    )
-}
-
-// A loop in which nothing is done.
-fn idle(alloc: Global) -> Result<Local, Fail> {
-    let x = VarName::read(b"X").ok_or("a variable")?;
-    Ok(Local::rec(alloc, x, Local::Var(x))?)
-}
-
-// Whether so many outputs of a are too many, in this way.
-fn is_past_a_limit(alloc: Global, count: usize, fault: LocalFault) -> Result<bool, Fail> {
-    let role = Role::new(0);
-    is_not_opened(
-        alloc,
-        sends(alloc, 1, count)?,
-        Local::End,
-        OpenFault::Local { role, fault },
-    )
-}
-
-// Whether a, who gives itself an int, is told as bad.
-fn is_bad(alloc: Global) -> Result<bool, Fail> {
-    let itself = OpenFault::BadPeer { role: Role::new(0) };
-    is_not_opened(alloc, sends(alloc, 0, 1)?, Local::End, itself)
-}
-
-// Whether the idle loop of b is told.
-fn is_unguarded(alloc: Global) -> Result<bool, Fail> {
-    let unguarded = OpenFault::Local {
-        role: Role::new(1),
-        fault: LocalFault::Unguarded,
-    };
-    is_not_opened(alloc, Local::End, idle(alloc)?, unguarded)
-}
-
-// How many outputs of a are too many, in which way: with the end 64 are 65 levels, and 256 are 257 nodes.
-const PAST_A_LIMIT: &[(usize, LocalFault)] = &[
-    (64, LocalFault::TooDeep),
-    (255, LocalFault::TooDeep),
-    (256, LocalFault::TooManyNodes),
-];
-
-// `replay` says why types open no session, a bad peer, a loop without an act or a limit, and writes nothing.
-#[test]
-fn opens_no_session(rt: HostRuntime) -> Result<(), Fail> {
-    assert!(rt; is_bad(rt.alloc())?);
-    assert!(rt; is_unguarded(rt.alloc())?);
-    for (count, fault) in PAST_A_LIMIT {
-        assert!(rt; is_past_a_limit(rt.alloc(), *count, *fault)?, "{count}");
-    }
-    Ok(())
-}
-
-// Whether a session opens where a gives b so many ints.
-fn is_opened(alloc: Global, count: usize) -> Result<bool, Fail> {
-    let types = vec![in alloc; sends(alloc, 1, count)?, Local::End]?;
-    let script = in_one_piece(alloc, "a send b 5\n")?;
-    comes_to(alloc, types, script, room(200), b"done 1\n", None)
-}
-
-// `replay` opens a session of 64 levels, the most: 63 outputs and the end.
-#[test]
-fn opens_the_deepest_session(rt: HostRuntime) -> Result<(), Fail> {
-    assert!(rt; is_opened(rt.alloc(), 63)?);
     Ok(())
 }

@@ -106,12 +106,13 @@ fn is_read(rt: &(impl Abort + AllocGlobal), roles: &Roles, row: &(&str, usize, &
     }
 }
 
-// `read_script_line` gives the role and the command that a line of a script spells, here of each kind of command.
+// `mps_line::read_script_line` gives the role and the command that a line of a script spells, here of each kind of
+// command.
 #[test]
-fn good_lines(rt: HostRuntime) {
+fn a_line_of_a_script_is_read_as_its_command(rt: HostRuntime) {
     let roles = three_roles(&rt);
     for row in SCRIPT_LINES {
-        assert!(rt; is_read(&rt, &roles, row), "{}", row.0);
+        assert!(rt; is_read(&rt, &roles, row), "what `{}` is read as", row.0);
     }
 }
 
@@ -192,12 +193,15 @@ fn is_bad_line(alloc: Global, roles: &Roles, line: &str) -> bool {
     )
 }
 
-// `read_script_line` says `Bad` of each line that spells no command of a role.
+// `mps_line::read_script_line` says `Bad` of each line that spells no command of a role.
 #[test]
-fn bad_lines(rt: HostRuntime) {
+fn a_line_that_spells_no_command_of_a_role_is_bad(rt: HostRuntime) {
     let roles = three_roles(&rt);
     for line in BAD_LINES {
-        assert!(rt; is_bad_line(rt.alloc(), &roles, line), "{line}");
+        assert!(rt;
+            is_bad_line(rt.alloc(), &roles, line),
+            "`{line}` is no line"
+        );
     }
 }
 
@@ -260,12 +264,16 @@ fn is_command(rt: &(impl Abort + AllocGlobal), roles: &Roles, line: &str, text: 
         && written.as_slice() == line.as_bytes()
 }
 
-// `read_command` reads the line, `append_command` writes the same line again, and that is read as the same command.
+// `mps_line::read_command` reads the line, `append_command` writes the same line again, and that is read as the same
+// command.
 #[test]
-fn commands_alone(rt: HostRuntime) {
+fn a_command_is_written_as_the_line_it_was_read_of(rt: HostRuntime) {
     let roles = three_roles(&rt);
     for (line, text) in COMMANDS {
-        assert!(rt; is_command(&rt, &roles, line, text), "{line}");
+        assert!(rt;
+            is_command(&rt, &roles, line, text),
+            "`{line}` is read and written again"
+        );
     }
 }
 
@@ -359,12 +367,15 @@ fn is_bad_command(alloc: Global, roles: &Roles, line: &str) -> bool {
     )
 }
 
-// `read_command` says `Bad` of each line that spells no command.
+// `mps_line::read_command` says `Bad` of each line that spells no command.
 #[test]
-fn bad_commands(rt: HostRuntime) {
+fn a_line_that_spells_no_command_is_bad(rt: HostRuntime) {
     let roles = three_roles(&rt);
     for line in BAD_COMMANDS {
-        assert!(rt; is_bad_command(rt.alloc(), &roles, line), "{line}");
+        assert!(rt;
+            is_bad_command(rt.alloc(), &roles, line),
+            "`{line}` is no command"
+        );
     }
 }
 
@@ -413,12 +424,17 @@ fn is_numbered(
     number == row.1 && is_written(rt, roles, &command, row.2)
 }
 
-// `read_numbered` takes a number off, if the line has one, and reads the command, which is written without it.
+// `mps_line::read_numbered` takes a number off, if the line has one, and reads the command, which is written without
+// it.
 #[test]
-fn reads_numbered_lines(rt: HostRuntime) {
+fn a_number_is_taken_off_its_command(rt: HostRuntime) {
     let roles = two_roles(&rt);
     for row in NUMBERED {
-        assert!(rt; is_numbered(&rt, &roles, row), "{}", row.0);
+        assert!(rt;
+            is_numbered(&rt, &roles, row),
+            "what `{}` is read as",
+            row.0
+        );
     }
 }
 
@@ -474,11 +490,14 @@ fn is_bad_numbered(alloc: Global, roles: &Roles, line: &str) -> bool {
     )
 }
 
-// `read_numbered` says `Bad` of each line that spells neither a command nor a number and a change.
+// `mps_line::read_numbered` says `Bad` of each line that spells neither a command nor a number and a change.
 #[test]
-fn bad_numbered_lines(rt: HostRuntime) {
+fn a_number_before_no_change_is_bad(rt: HostRuntime) {
     let roles = two_roles(&rt);
     for line in BAD_NUMBERED {
-        assert!(rt; is_bad_numbered(rt.alloc(), &roles, line), "{line}");
+        assert!(rt;
+            is_bad_numbered(rt.alloc(), &roles, line),
+            "`{line}` has no number"
+        );
     }
 }

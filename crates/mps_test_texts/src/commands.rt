@@ -39,12 +39,15 @@ fn read(rt: &(impl Abort + AllocGlobal), roles: &Roles, line: &str) -> Command {
     read_command(rt.alloc(), roles, line.as_bytes()).expect(rt, "a command")
 }
 
-// `Command::copy` gives an equal command. Two are compared by how they are shown (`Debug`).
+// `mps_command::Command::copy` gives an equal command. Two are compared by how they are shown (`Debug`).
 #[test]
-fn copies_commands(rt: HostRuntime) {
+fn a_copied_command_is_shown_alike(rt: HostRuntime) {
     let roles = two_roles(&rt);
     for line in COMMANDS {
-        assert!(rt; is_copied(&rt, &read(&rt, &roles, line)), "{line}");
+        assert!(rt;
+            is_copied(&rt, &read(&rt, &roles, line)),
+            "the copy of `{line}`"
+        );
     }
 }
 
@@ -57,12 +60,17 @@ fn shown_change(rt: &(impl Abort + AllocGlobal), change: &Change) -> String {
 fn copies(rt: &(impl Abort + AllocGlobal), change: Change) {
     let copied = change.copy(rt.alloc()).expect(rt, "memory");
     let shown = shown_change(rt, &change);
-    assert_eq!(rt; shown.as_str(), shown_change(rt, &copied).as_str());
+    assert_eq!(rt;
+        shown.as_str(),
+        shown_change(rt, &copied).as_str(),
+        "the copied change"
+    );
 }
 
-// `Change::copy` gives an equal change: a pick, a commit, an undo, a rollback, a return. The numbers stand for any.
+// `mps_command::Change::copy` gives an equal change: a pick, a commit, an undo, a rollback, a return. The numbers stand
+// for any.
 #[test]
-fn copies_changes(rt: HostRuntime) {
+fn a_copied_change_is_shown_alike(rt: HostRuntime) {
     let from = Role::new(1);
     copies(&rt, Change::Forward(Forward::Pick { from }));
     copies(&rt, Change::Forward(Forward::Commit));
@@ -79,13 +87,17 @@ fn shown_again(rt: &(impl Abort + AllocGlobal), answer: &Answer) -> Option<Shown
     }
 }
 
-// `Answer::copy` keeps the text of a shown session, byte by byte: any text that begins with a brace.
+// `mps_command::Answer::copy` keeps the text of a shown session, byte by byte: any text that begins with a brace.
 #[test]
-fn copies_shown_texts(rt: HostRuntime) {
+fn a_copied_show_keeps_each_byte(rt: HostRuntime) {
     let text = ShownText::of(Vec::from_slice(rt.alloc(), b"{1 ~}").expect(&rt, "memory"));
-    assert_eq!(rt; text.as_bytes(), b"{1 ~}".as_slice());
+    assert_eq!(rt;
+        text.as_bytes(),
+        b"{1 ~}".as_slice(),
+        "the text as it was given"
+    );
     let again = shown_again(&rt, &Answer::Shown(text)).expect(&rt, "a text");
-    assert_eq!(rt; again.as_bytes(), b"{1 ~}".as_slice());
+    assert_eq!(rt; again.as_bytes(), b"{1 ~}".as_slice(), "the copied text");
 }
 
 // The list of these numbers.
@@ -114,14 +126,17 @@ fn has_numbers(ids: &StepIds, wanted: &[u64]) -> bool {
 // A copy of the list of these numbers has them.
 fn copies_list(rt: &(impl Abort + AllocGlobal), numbers: &[u64]) {
     let copied = copy_of(rt, listed(rt, numbers));
-    assert!(rt; has_numbers(&copied, numbers));
+    assert!(rt; has_numbers(&copied, numbers), "the copy of {numbers:?}");
 }
 
-// `Answer::copy` keeps a list of step numbers: of none, of one without a vector and with one, of two.
+// `mps_command::Answer::copy` keeps a list of step numbers: of none, of one without a vector and with one, of two.
 #[test]
-fn copies_lists_of_numbers(rt: HostRuntime) {
+fn a_copied_list_has_its_numbers(rt: HostRuntime) {
     copies_list(&rt, &[]);
-    assert!(rt; has_numbers(&copy_of(&rt, StepIds::one(StepId::new(7))), &[7]));
+    assert!(rt;
+        has_numbers(&copy_of(&rt, StepIds::one(StepId::new(7))), &[7]),
+        "the copy of 7 without a vector"
+    );
     copies_list(&rt, &[7]);
     copies_list(&rt, &[5, 3]);
 }
@@ -139,11 +154,18 @@ fn gives_two(ids: StepIds, first: u64, second: u64) -> bool {
     }
 }
 
-// `StepIds::try_into_vec`: a list of one number that is kept without a vector gives the number, any other its vector.
+// `mps_command::StepIds::try_into_vec`: a list of one number that is kept without a vector gives the number, any other
+// its vector.
 #[test]
-fn gives_lists_of_numbers_up(rt: HostRuntime) {
-    assert!(rt; gives_number(StepIds::one(StepId::new(7)), 7));
-    assert!(rt; gives_two(listed(&rt, &[5, 3]), 5, 3));
+fn a_list_gives_up_its_vector_or_its_one_number(rt: HostRuntime) {
+    assert!(rt;
+        gives_number(StepIds::one(StepId::new(7)), 7),
+        "the number 7"
+    );
+    assert!(rt;
+        gives_two(listed(&rt, &[5, 3]), 5, 3),
+        "the numbers 5 and 3"
+    );
 }
 
 // How the answer is shown.
@@ -184,14 +206,21 @@ const ANSWERS: &[&str] = &[
     "refused ended",
 ];
 
-// `Answer::copy` gives an equal answer, by how it is shown. The last is a list of one number without a vector.
+// `mps_command::Answer::copy` gives an equal answer, by how it is shown. The last is a list of one number without a
+// vector.
 #[test]
-fn copies_answers(rt: HostRuntime) {
+fn a_copied_answer_is_shown_alike(rt: HostRuntime) {
     for line in ANSWERS {
-        assert!(rt; is_copied_answer(&rt, &answer(&rt, line)), "{line}");
+        assert!(rt;
+            is_copied_answer(&rt, &answer(&rt, line)),
+            "the copy of `{line}`"
+        );
     }
     let one = Answer::Undone(StepIds::one(StepId::new(6)));
-    assert!(rt; is_copied_answer(&rt, &one));
+    assert!(rt;
+        is_copied_answer(&rt, &one),
+        "the copy of 6 without a vector"
+    );
 }
 
 // Lines of answers with numbers.
@@ -205,11 +234,11 @@ fn is_copied_line(rt: &(impl Abort + AllocGlobal), line: &str) -> bool {
     text.as_slice() == line.as_bytes()
 }
 
-// The copy of an answer is written as the line of which the answer was read.
+// `mps_command::Answer::copy` gives an answer that is written as the line of which the first was read.
 #[test]
-fn copies_answers_line_by_line(rt: HostRuntime) {
+fn a_copied_answer_is_written_as_the_same_line(rt: HostRuntime) {
     for line in LINES {
-        assert!(rt; is_copied_line(&rt, line), "{line}");
+        assert!(rt; is_copied_line(&rt, line), "the copy of `{line}`");
     }
 }
 
@@ -240,10 +269,13 @@ fn is_copied_to(rt: &(impl Abort + AllocGlobal), last: u64) -> bool {
     copied.as_slice().len() as u64 == last && rise(&copied)
 }
 
-// `Answer::copy` keeps each number of a list, in order, of short lists and of a long one.
+// `mps_command::Answer::copy` keeps each number of a list, in order, of short lists and of a long one.
 #[test]
-fn copies_a_thousand_numbers(rt: HostRuntime) {
+fn a_copied_list_of_a_thousand_numbers_keeps_their_order(rt: HostRuntime) {
     for last in [5, 7, 1_000] {
-        assert!(rt; is_copied_to(&rt, last), "{last}");
+        assert!(rt;
+            is_copied_to(&rt, last),
+            "the copy of the numbers up to {last}"
+        );
     }
 }

@@ -98,25 +98,26 @@ fn lines_of(rt: &(impl Abort + AllocGlobal), pieces: &[&[u8]]) -> Vec<Line> {
     told
 }
 
-// These pieces are told so.
-fn pieces_are_told(rt: &(impl Abort + AllocGlobal), pieces: &[&[u8]], want: &[Told]) {
-    assert!(rt; all_told(&lines_of(rt, pieces), want));
-}
-
 // These bytes are told so, in pieces of so many.
 fn are_told(rt: &(impl Abort + AllocGlobal), bytes: &[u8], size: usize, want: &[Told]) {
     let mut pieces = Vec::new(rt.alloc());
     for piece in bytes.chunks(size.max(1)) {
         pieces.push(piece).expect(rt, "memory");
     }
-    pieces_are_told(rt, &pieces, want);
+    assert!(rt;
+        all_told(&lines_of(rt, &pieces), want),
+        "in pieces of {size} bytes"
+    );
 }
 
 // They are told so, wherever they are cut in two.
 fn are_told_in_two(rt: &(impl Abort + AllocGlobal), bytes: &[u8], want: &[Told]) {
     for cut in 0..bytes.len() {
         let (front, back) = bytes.split_at(cut);
-        pieces_are_told(rt, &[front, back], want);
+        assert!(rt;
+            all_told(&lines_of(rt, &[front, back]), want),
+            "cut at {cut}"
+        );
     }
 }
 
@@ -127,15 +128,15 @@ fn letters(rt: &(impl Abort + AllocGlobal), count: usize, end: &[u8]) -> Vec<u8>
     bytes
 }
 
-// `Lines` that is fed byte by byte reports the five lines that the whole text has.
+// `mps_lines::Lines` that is fed byte by byte reports the five lines that the whole text has.
 #[test]
-fn pieces_of_one_byte(rt: HostRuntime) {
+fn single_bytes_give_the_same_lines(rt: HostRuntime) {
     are_told(&rt, TEXT, 1, LINES_OF_TEXT);
 }
 
-// `Lines` reports the same five lines wherever the text is cut in two.
+// `mps_lines::Lines` reports the same five lines wherever the text is cut in two.
 #[test]
-fn every_two_pieces(rt: HostRuntime) {
+fn any_two_pieces_give_the_same_lines(rt: HostRuntime) {
     are_told_in_two(&rt, TEXT, LINES_OF_TEXT);
 }
 
@@ -152,9 +153,9 @@ const LETTERS: &[(usize, &[u8], Told)] = &[
     (512, b"\x80\n", TooLong),
 ];
 
-// Up to 512 bytes a line is told, with more it is too long, wherever it is cut in two.
+// `mps_lines::Lines` tells a line of up to 512 bytes (MAX_LINE); with more it is too long, wherever it is cut in two.
 #[test]
-fn lines_and_rests_of_512_bytes_and_more(rt: HostRuntime) {
+fn a_line_of_more_than_512_bytes_is_too_long(rt: HostRuntime) {
     for (count, end, want) in LETTERS {
         are_told_in_two(&rt, &letters(&rt, *count, end), &[*want]);
     }
@@ -166,9 +167,10 @@ const LONG_AND_SHORT: &[Told] = &[TooLong, Text(b"pick a")];
 // Sizes of pieces: a byte, the longest line and one byte more, a block as scripts are read by, and more than all bytes.
 const SIZES: &[usize] = &[1, 512, 513, 65_536, 100_000, 200_000];
 
-// A line far over the limit is told as one that is too long, and the line after it whole, in pieces of any size.
+// `mps_lines::Lines` tells a line far over the limit, of 100,000 bytes, as too long, and the line after it whole, in
+// pieces of any size.
 #[test]
-fn a_line_of_100_000_bytes(rt: HostRuntime) {
+fn the_line_after_a_very_long_one_is_whole(rt: HostRuntime) {
     let bytes = letters(&rt, 100_000, b"\npick a\n");
     for size in SIZES {
         are_told(&rt, &bytes, *size, LONG_AND_SHORT);
@@ -178,18 +180,20 @@ fn a_line_of_100_000_bytes(rt: HostRuntime) {
 // What lines of one byte are told as: of 127, 128 and 255.
 const FROM_128_ON: &[Told] = &[Text(b"\x7F"), NotAscii, NotAscii];
 
-// A line with a byte of 128 or more is no text. All bytes come in one piece, which is shorter than 100.
+// `mps_lines::Lines` tells a line with a byte of 128 or more as no text. All bytes come in one piece, which is shorter
+// than 100.
 #[test]
-fn bytes_from_128_on(rt: HostRuntime) {
+fn a_line_with_a_byte_from_128_on_is_no_text(rt: HostRuntime) {
     are_told(&rt, b"\x7F\n\x80\n\xFF", 100, FROM_128_ON);
 }
 
 // What three LFs are told as.
 const THREE_EMPTY: &[Told] = &[Text(b""); 3];
 
-// No bytes are no line. Each LF ends one, so three are three lines without a byte, here in pieces of two and one.
+// `mps_lines::Lines` tells no line of no bytes. Each LF ends one, so three are three lines without a byte, here in
+// pieces of two and one.
 #[test]
-fn empty_lines(rt: HostRuntime) {
+fn each_lf_ends_a_line(rt: HostRuntime) {
     are_told(&rt, b"", 1, &[]);
     are_told(&rt, b"\n\n\n", 2, THREE_EMPTY);
 }
@@ -205,7 +209,10 @@ fn is_waiting(line: Option<&Line>, want: Option<Told>) -> bool {
 
 // The line that waits first is reported so, or none waits.
 fn is_next(rt: &impl Abort, lines: &mut Lines, want: Option<Told>) {
-    assert!(rt; is_waiting(next(rt, lines).as_ref(), want));
+    assert!(rt;
+        is_waiting(next(rt, lines).as_ref(), want),
+        "the line that waits first"
+    );
 }
 
 // Whether none waits.
@@ -220,14 +227,15 @@ fn none_waits(rt: &impl Abort, lines: &mut Lines) -> bool
 
 // None waits, and the rest is reported so, if there is one.
 fn is_rest(rt: &impl Abort, lines: &mut Lines, want: Option<Told>) {
-    assert!(rt; none_waits(rt, lines));
+    assert!(rt; none_waits(rt, lines), "no line waits");
     let rest = lines.finish().expect(rt, "memory");
-    assert!(rt; is_waiting(rest.as_ref(), want));
+    assert!(rt; is_waiting(rest.as_ref(), want), "the rest");
 }
 
-// `finish` gives the rest once, if it has a byte. What is fed then begins a new line; `news` waits for its LF.
+// `mps_lines::Lines::finish` gives the rest once, if it has a byte. What is fed then begins a new line; `news` waits
+// for its LF.
 #[test]
-fn finishes_and_begins_again(rt: HostRuntime) {
+fn after_the_rest_a_new_line_begins(rt: HostRuntime) {
     let mut lines = Lines::new(rt.alloc());
     is_rest(&rt, &mut lines, None);
     feed_piece(&rt, &mut lines, b"mark m");
@@ -252,15 +260,16 @@ const PAIR: &[Told] = &[Text(b"pick a"), Text(b"show")];
 
 // So many lines are these two by turns.
 fn are_pairs(rt: &impl Abort, told: &[Line], count: usize) {
-    assert_eq!(rt; told.len(), count);
+    assert_eq!(rt; told.len(), count, "the count of lines");
     for pair in told.chunks(2) {
-        assert!(rt; all_told(pair, PAIR));
+        assert!(rt; all_told(pair, PAIR), "two lines by turns");
     }
 }
 
-// 2,000 lines that wait together come out in order: a thousand times two, the second of them in two pieces.
+// `mps_lines::Lines` gives 2,000 lines that wait together in order: a thousand times two, the second of them in two
+// pieces.
 #[test]
-fn many_lines_wait(rt: HostRuntime) {
+fn lines_that_wait_come_out_in_order(rt: HostRuntime) {
     let mut lines = Lines::new(rt.alloc());
     feed_often(&rt, &mut lines, 1_000);
     let mut told = Vec::new(rt.alloc());
@@ -272,24 +281,32 @@ fn many_lines_wait(rt: HostRuntime) {
 fn kept(rt: &(impl Abort + AllocGlobal), front: &[u8], back: &[u8]) -> Vec<u8> {
     let mut line = Vec::new(rt.alloc());
     keep(&mut line, front).expect(rt, "memory");
-    assert!(rt; line.len() <= MOST_KEPT);
+    assert!(rt; line.len() <= MOST_KEPT, "no more than MOST_KEPT bytes");
     keep(&mut line, back).expect(rt, "memory");
     line
 }
 
-// `line_end` finds the first LF, at 6, or none. `keep` keeps a short line whole, and of a long one MOST_KEPT bytes.
+// `mps_lines::line_end` finds the first LF, at 6, or none. `keep` keeps a short line whole, and of a long one MOST_KEPT
+// bytes.
 #[test]
-fn fronts_of_lines(rt: HostRuntime) {
-    assert!(rt; line_end(b"pick a\nshow\n") == Some(6));
-    assert!(rt; line_end(b"pick a").is_none());
-    assert!(rt; kept(&rt, b"pick", b" a").as_slice() == b"pick a".as_slice());
+fn keep_cuts_a_long_line_and_line_end_finds_its_lf(rt: HostRuntime) {
+    assert!(rt; line_end(b"pick a\nshow\n") == Some(6), "an LF at 6");
+    assert!(rt; line_end(b"pick a").is_none(), "no LF");
+    assert!(rt;
+        kept(&rt, b"pick", b" a").as_slice() == b"pick a".as_slice(),
+        "a short line is kept whole"
+    );
     let long = letters(&rt, 100_000, b"");
-    assert!(rt; kept(&rt, b"", &long).len() == MOST_KEPT);
+    assert!(rt;
+        kept(&rt, b"", &long).len() == MOST_KEPT,
+        "of a long line MOST_KEPT bytes are kept"
+    );
 }
 
-// All bytes come in one piece of over a megabyte: one line that is too long, and one that is told whole.
+// `mps_lines::Lines` takes all bytes in one piece of over a megabyte: one line that is too long, and one that is told
+// whole.
 #[test]
-fn a_piece_of_a_megabyte(rt: HostRuntime) {
+fn a_piece_of_a_megabyte_is_told_whole(rt: HostRuntime) {
     let bytes = letters(&rt, 1_100_000, b"\npick a\n");
     are_told(&rt, &bytes, 2_000_000, LONG_AND_SHORT);
 }

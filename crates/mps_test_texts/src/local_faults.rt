@@ -80,17 +80,19 @@ fn many(rt: &(impl Abort + AllocGlobal), count: u32, part: &Part<'_>, next: Loca
 
 // The type has that first fault, or none.
 fn has_fault(rt: &impl Abort, t: Local, fault: Option<LocalFault>) {
-    assert_eq!(rt; first_fault(&t), fault);
+    assert_eq!(rt; first_fault(&t), fault, "the first fault");
 }
 
-// So many outputs and then the parts have that first fault, or none.
+// So many outputs and then the parts, of that row, have that first fault, or none.
 fn tells(
     rt: &(impl Abort + AllocGlobal),
+    row: usize,
     count: u32,
     parts: &[Part<'_>],
     fault: Option<LocalFault>,
 ) {
-    has_fault(rt, many(rt, count, &Part::Sends, chain(rt, parts)), fault);
+    let found = first_fault(&many(rt, count, &Part::Sends, chain(rt, parts)));
+    assert_eq!(rt; found, fault, "row {row} (from 0) after {count} outputs");
 }
 
 // 17 labels, one more than a choice may have.
@@ -154,13 +156,13 @@ const FAULTY: &[(&[Part<'static>], LocalFault)] = &[
     ),
 ];
 
-// `first_fault` names each kind of fault that a node may have, near the root and deep below it.
+// `mps_local::first_fault` names each kind of fault that a node may have, near the root and deep below it.
 #[test]
-fn names_each_fault(rt: HostRuntime) {
-    for row in FAULTY {
-        tells(&rt, 0, row.0, Some(row.1));
+fn each_kind_of_fault_is_named(rt: HostRuntime) {
+    for (k, row) in FAULTY.iter().enumerate() {
+        tells(&rt, k, 0, row.0, Some(row.1));
         // below 50 outputs, so that few of the 64 levels are left
-        tells(&rt, 50, row.0, Some(row.1));
+        tells(&rt, k, 50, row.0, Some(row.1));
     }
 }
 
@@ -214,16 +216,17 @@ const FAULT_BELOW: &[(&[Part<'static>], LocalFault)] = &[
     ),
 ];
 
-// Of two branches with a fault the left one's is named, and of two nodes on a path the upper one's.
+// `mps_local::first_fault`: of two branches with a fault the left one's is named, and of two nodes on a path the upper
+// one's.
 #[test]
-fn names_the_first_fault_in_preorder(rt: HostRuntime) {
+fn the_first_fault_in_preorder_is_named(rt: HostRuntime) {
     for first in FAULTY {
         for second in FAULTY {
             tells_of_choice(&rt, first.0, second.0, first.1);
         }
     }
-    for row in FAULT_BELOW {
-        tells(&rt, 0, row.0, Some(row.1));
+    for (k, row) in FAULT_BELOW.iter().enumerate() {
+        tells(&rt, k, 0, row.0, Some(row.1));
     }
 }
 
@@ -235,15 +238,16 @@ const LENGTHS: &[(u32, Option<LocalFault>)] = &[
     (256, Some(LocalFault::TooManyNodes)),
 ];
 
-// `first_fault` tells limits first: 64 outputs and a faulty node are too many levels, 256 and one too many nodes.
+// `mps_local::first_fault` tells limits first: 64 outputs and a faulty node are too many levels, 256 and one too many
+// nodes.
 #[test]
-fn names_the_limits_first(rt: HostRuntime) {
-    for row in FAULTY {
-        tells(&rt, 64, row.0, Some(LocalFault::TooDeep));
-        tells(&rt, 256, row.0, Some(LocalFault::TooManyNodes));
+fn limits_are_named_before_other_faults(rt: HostRuntime) {
+    for (k, row) in FAULTY.iter().enumerate() {
+        tells(&rt, k, 64, row.0, Some(LocalFault::TooDeep));
+        tells(&rt, k, 256, row.0, Some(LocalFault::TooManyNodes));
     }
-    for row in LENGTHS {
-        tells(&rt, row.0, &[], row.1);
+    for (k, row) in LENGTHS.iter().enumerate() {
+        tells(&rt, k, row.0, &[], row.1);
     }
 }
 
@@ -260,12 +264,18 @@ fn uneven(rt: &(impl Abort + AllocGlobal), place: usize, count: u32) -> Local {
     Local::Select { peer, branches }
 }
 
-// `first_fault` finds the deepest of three branches: the choice, 62 outputs and the end are 64 levels, the most.
+// `mps_local::first_fault` finds the deepest of three branches: the choice, 62 outputs and the end are 64 levels, the
+// most.
 #[test]
-fn goes_down_the_deepest_branch(rt: HostRuntime) {
+fn levels_are_counted_in_the_deepest_branch(rt: HostRuntime) {
     for place in 0..3usize {
-        has_fault(&rt, uneven(&rt, place, 62), None);
-        has_fault(&rt, uneven(&rt, place, 63), Some(LocalFault::TooDeep));
+        let (most, more) = (uneven(&rt, place, 62), uneven(&rt, place, 63));
+        assert_eq!(rt; first_fault(&most), None, "branch {place}");
+        assert_eq!(rt;
+            first_fault(&more),
+            Some(LocalFault::TooDeep),
+            "branch {place}"
+        );
     }
 }
 
@@ -286,9 +296,10 @@ fn loops(rt: &(impl Abort + AllocGlobal), last: u32) -> Local {
     Local::Branch { peer, branches }
 }
 
-// `first_fault` counts all branches: the choice and 15 loops have 241 nodes, a loop of 13 inputs makes 256, the most.
+// `mps_local::first_fault` counts all branches: the choice and 15 loops have 241 nodes, a loop of 13 inputs makes 256,
+// the most.
 #[test]
-fn counts_each_node(rt: HostRuntime) {
+fn nodes_are_counted_over_all_branches(rt: HostRuntime) {
     has_fault(&rt, loops(&rt, 13), None);
     has_fault(&rt, loops(&rt, 14), Some(LocalFault::TooManyNodes));
 }
@@ -315,11 +326,11 @@ const FAULTLESS: &[&[Part<'static>]] = &[
     &[Part::Chooses(&["l", "m"]), Part::Chooses(&["l", "m"])],
 ];
 
-// `first_fault` finds none in these. A law's call does nothing: it shows that others can call it so.
+// `mps_local::first_fault` finds none in these. A law's call does nothing: it shows that others can call it so.
 #[test]
-fn finds_no_fault(rt: HostRuntime) {
-    for parts in FAULTLESS {
-        tells(&rt, 0, parts, None);
+fn a_type_without_a_fault_has_none(rt: HostRuntime) {
+    for (k, parts) in FAULTLESS.iter().enumerate() {
+        tells(&rt, k, 0, parts, None);
     }
     local_fault_laws();
     local_size_laws();
@@ -346,9 +357,10 @@ fn wide(rt: &(impl Abort + AllocGlobal), count: u32) -> Local {
     Local::Select { peer, branches }
 }
 
-// `first_fault` takes types of any size: so many nodes run the stack out where a function calls itself for each.
+// `mps_local::first_fault` takes types of any size: so many nodes run the stack out where a function calls itself for
+// each.
 #[test]
-fn checks_types_of_any_size(rt: HostRuntime) {
+fn a_type_of_any_size_is_checked(rt: HostRuntime) {
     is_too_long(&rt, 1_000_000, &Part::Sends);
     is_too_long(&rt, 1_000_000, &Part::Takes);
     is_too_long(&rt, 1_000_000, &Part::Rec("X"));

@@ -92,7 +92,10 @@ fn projected(
     ensures { IfOk result
         (λ t. AllPeers (λ peer. peer < length protocol.now.roles.items) (plain t)) }
 {
-    assert!(rt; check(protocol).is_ok() && usize::from(role) < protocol.roles.len());
+    assert!(rt;
+        check(protocol).is_ok() && usize::from(role) < protocol.roles.len(),
+        "a role of a protocol without faults"
+    );
     project(rt.alloc(), protocol, Role::new(role))
 }
 
@@ -103,7 +106,10 @@ fn fails_at(rt: &(impl Abort + AllocGlobal), body: Global, role: u8, choice: usi
         role: Role::new(role),
         choice,
     };
-    assert!(rt; projected(rt, &protocol, role).err() == Some(fault));
+    assert!(rt;
+        projected(rt, &protocol, role).err() == Some(fault),
+        "no type for the role at place {role}, for choice {choice}"
+    );
 }
 
 // Whether the type is written so.
@@ -122,7 +128,7 @@ fn does(rt: &(impl Abort + AllocGlobal), letters: &[&str], body: Global, role: u
     let t = projected(rt, &protocol, role).expect(rt, "a type");
     let copy = t.copy(rt.alloc()).expect(rt, "memory");
     let are_so = is_written(rt, &roles, &t, text) && is_written(rt, &roles, &copy, text);
-    assert!(rt; are_so, "{text}");
+    assert!(rt; are_so, "the type of the role at place {role}: {text}");
 }
 
 // a gives b ints without end, and c does nothing.
@@ -188,9 +194,10 @@ const IDLE: [Part<'static>; 4] = [
 // What a, b and c may say, and the choice that can't be merged for c. Choices are counted in preorder, from 0.
 const CHOICES: &[(&[Part<'static>], usize)] = &[(&ONE, 0), (&BEHIND, 0), (&INNER, 1), (&OWN, 1)];
 
-// `project` names the first choice of others that differs for c, the role at place 2. A law's call does nothing.
+// `mps_local::project` names the first choice of others that differs for c, the role at place 2. A law's call does
+// nothing.
 #[test]
-fn names_the_choice(rt: HostRuntime) {
+fn the_choice_whose_branches_differ_is_named(rt: HostRuntime) {
     for row in CHOICES {
         fails_at(&rt, chain(&rt, row.0), 2, row.1);
     }
@@ -218,9 +225,9 @@ const TYPES: &[(&[Part<'static>], u8, &str)] = &[
     (&IDLE, 2, "end"),
 ];
 
-// `project` gives the role's local type. It is compared as text (`write_local`), and so is a copy.
+// `mps_local::project` gives the role's local type. It is compared as text (`write_local`), and so is a copy.
 #[test]
-fn projects_each_role(rt: HostRuntime) {
+fn each_role_has_its_local_type(rt: HostRuntime) {
     for row in TYPES {
         does(&rt, &THREE, chain(&rt, row.0), row.1, row.2);
     }
@@ -232,24 +239,28 @@ fn types_of(
     parts: &[Part<'_>],
 ) -> Result<Vec<Local>, ProjectFault> {
     let protocol = protocol(rt, &THREE, chain(rt, parts));
-    assert!(rt; check(&protocol).is_ok());
+    assert!(rt; check(&protocol).is_ok(), "a protocol without faults");
     project_all(rt.alloc(), &protocol)
 }
 
-// `project_all` gives the types of a, b and c in order, or names the first role that has none, and the choice.
+// `mps_local::project_all` gives the types of a, b and c in order, or names the first role that has none, and the
+// choice.
 #[test]
-fn projects_all_roles(rt: HostRuntime) {
+fn all_roles_are_projected_in_order(rt: HostRuntime) {
     let types = types_of(&rt, &RELAY).expect(&rt, "types");
     let shown = match types.as_slice() {
         [Local::Send { .. }, Local::Recv { .. }, Local::Recv { .. }] => "sends, and two receive",
         _ => "something else",
     };
-    assert_eq!(rt; shown, "sends, and two receive");
+    assert_eq!(rt; shown, "sends, and two receive", "the types of a, b and c");
     let first = ProjectFault::Unmergeable {
         role: Role::new(2),
         choice: 0,
     };
-    assert!(rt; types_of(&rt, &ONE).err() == Some(first));
+    assert!(rt;
+        types_of(&rt, &ONE).err() == Some(first),
+        "no type for c, for choice 0"
+    );
 }
 
 // A choice of `a` between these two, in a loop in a loop.
@@ -339,9 +350,10 @@ fn is_same(rt: &(impl Abort + AllocGlobal), way: &Way) {
     does(rt, &THREE, chosen(rt, way.0, way.0), 2, way.1);
 }
 
-// `project` merges branches for c, the role at place 2, where they are equal for it, and names choice 0 where not.
+// `mps_local::project` merges branches for c, the role at place 2, where they are equal for it, and names choice 0
+// where not.
 #[test]
-fn merges_what_is_the_same(rt: HostRuntime) {
+fn branches_that_are_equal_for_a_role_are_merged(rt: HostRuntime) {
     for pair in DIFFERENT {
         differ(&rt, &pair.0, &pair.1);
         differ(&rt, &pair.1, &pair.0);
@@ -417,9 +429,10 @@ const WIDE: &[(u8, &str)] = &[
     (7, "recv g text . end"),
 ];
 
-// `project` merges 16 branches, the most a choice may have, for each of six roles that do the same in all of them.
+// `mps_local::project` merges 16 branches, the most a choice may have, for each of six roles that do the same in all of
+// them.
 #[test]
-fn projects_a_wide_choice(rt: HostRuntime) {
+fn sixteen_equal_branches_are_merged(rt: HostRuntime) {
     for row in WIDE {
         does(&rt, &EIGHT, wide_choice(&rt), row.0, row.1);
     }
@@ -452,14 +465,15 @@ fn turn(rt: &(impl Abort + AllocGlobal), next: Local) -> Local {
     }
 }
 
-// A type of 300,000 nodes in one another is dropped at the end of the test, which must not run out of stack.
+// `mps_local::Local` of 300,000 nodes in one another, 3 for each of MANY turns, is dropped at the end of the test,
+// which must not run out of stack.
 #[test]
-fn drops_deep_trees(rt: HostRuntime) {
+fn a_deep_local_type_is_dropped(rt: HostRuntime) {
     let mut tree = Local::End;
     for _ in 0..MANY {
         tree = turn(&rt, tree);
     }
-    assert!(rt; matches!(&tree, Local::Select { .. }));
+    assert!(rt; matches!(&tree, Local::Select { .. }), "a tree of choices");
 }
 
 // So many outputs to the second role, one after the other.
@@ -510,12 +524,13 @@ fn is_so_long(rt: &(impl Abort + AllocGlobal), t: Local, length: usize)
     requires { AllPeers (λ peer. peer < 2) (plain t) }
 {
     let text = write_local(rt.alloc(), &two_roles(rt), &t).expect(rt, "memory");
-    assert_eq!(rt; text.len(), length);
+    assert_eq!(rt; text.len(), length, "the length of the text");
 }
 
-// `write_local` writes types of 100,000 nodes or branches. Of so long a text the length is looked at, token by token.
+// `mps_local::write_local` writes types of 100,000 nodes or branches. Of so long a text the length is looked at, token
+// by token.
 #[test]
-fn writes_deep_and_wide_types(rt: HostRuntime) {
+fn deep_and_wide_types_are_written(rt: HostRuntime) {
     is_so_long(
         &rt,
         sends(&rt, MANY),
@@ -614,21 +629,21 @@ fn make_choices_alike(one: &Local, other: &Local) -> bool {
     }
 }
 
-// `Local::copy` and `Branches::copy` give equal types, of 100,000 nodes in one another or as many branches.
+// `mps_local::Local::copy` and `Branches::copy` give equal types, of 100,000 nodes in one another or as many branches.
 #[test]
-fn copies_deep_and_wide_types(rt: HostRuntime) {
+fn deep_and_wide_types_are_copied(rt: HostRuntime) {
     let deep = outputs(&rt, MANY);
     let copied = deep.copy(rt.alloc()).expect(&rt, "memory");
-    assert!(rt; send_alike(&deep, &copied));
+    assert!(rt; send_alike(&deep, &copied), "the outputs");
     let branches = output_branches(&rt, MANY);
     let copied = branches.copy(rt.alloc()).expect(&rt, "memory");
-    assert!(rt; choose_alike(&branches, &copied));
+    assert!(rt; choose_alike(&branches, &copied), "the branches");
     let wide = Local::Select {
         peer: Role::new(1),
         branches,
     };
     let copied = wide.copy(rt.alloc()).expect(&rt, "memory");
-    assert!(rt; make_choices_alike(&wide, &copied));
+    assert!(rt; make_choices_alike(&wide, &copied), "the choice");
 }
 
 // So many outputs to the second role, and then an input from the third.
@@ -646,12 +661,16 @@ const OTHERS: &[(usize, usize, bool)] = &[(2, 0, true), (2, 1, false), (1, 0, fa
 
 // The type that names the second role names others alone where it is another one.
 fn names_another(rt: &impl Abort, t: Local, row: &(usize, usize, bool)) {
-    assert!(rt; t.names_others(row.0, row.1) == row.2);
+    assert!(rt;
+        t.names_others(row.0, row.1) == row.2,
+        "roles, role and whether it is another: {row:?}"
+    );
 }
 
-// `Local::names_others`: the types name the role at place 1, `end` names none, and the last type place 2 besides.
+// `mps_local::Local::names_others`: the types name the role at place 1, `end` names none, and the last type place 2
+// besides.
 #[test]
-fn names_its_peers(rt: HostRuntime) {
+fn a_type_that_names_its_own_role_is_told(rt: HostRuntime) {
     for row in OTHERS {
         // so many nodes run the stack out where a function calls itself for each
         names_another(&rt, sends(&rt, 1_000_000), row);

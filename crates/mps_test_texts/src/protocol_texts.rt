@@ -18,7 +18,12 @@ type Row = (&'static [u8], usize);
 // The text has that fault, or is read as a protocol where none is given.
 fn has_fault(rt: &(impl Abort + AllocGlobal), text: &[u8], wanted: Option<Fault>) {
     let fault = read_protocol(rt.alloc(), text).err();
-    assert_eq!(rt; fault.map(|fault| (fault.kind, fault.at)), wanted);
+    let shown = String::from_utf8_lossy(rt.alloc(), text).expect(rt, "memory");
+    assert_eq!(rt;
+        fault.map(|fault| (fault.kind, fault.at)),
+        wanted,
+        "the fault of `{shown}`"
+    );
 }
 
 // Each text has a fault of that kind, at its byte.
@@ -105,9 +110,9 @@ const PROTOCOLS: &[&[u8]] = &[
     b"roles a b ; ABCDEFGHIJKLMNOPQRSTUVWXYZ_01234",
 ];
 
-// `read_protocol` reads each text that spells a protocol. What it is read as, the next two tests look at.
+// `mps_text::read_protocol` reads each text that spells a protocol. What it is read as, the next two tests look at.
 #[test]
-fn reads_protocols(rt: HostRuntime) {
+fn a_text_that_spells_a_protocol_is_read(rt: HostRuntime) {
     for text in PROTOCOLS {
         has_fault(&rt, text, None);
     }
@@ -126,17 +131,20 @@ fn after_message<'a>(node: &'a Global, from: &[u8], to: &[u8], of: Sort) -> Opti
     }
 }
 
-// `read_protocol` reads the roles in order, and each message with its roles and its sort, down to the end.
+// `mps_text::read_protocol` reads the roles in order, and each message with its roles and its sort, down to the end.
 #[test]
-fn reads_messages(rt: HostRuntime) {
+fn messages_are_read_in_order(rt: HostRuntime) {
     let protocol = protocol(&rt, b"roles a b c ; a -> b : int . b -> c : text . end");
-    assert!(rt; check(&protocol).is_ok());
+    assert!(rt; check(&protocol).is_ok(), "a protocol without faults");
     let roles = [name(&rt, "a"), name(&rt, "b"), name(&rt, "c")];
-    assert!(rt; protocol.roles.as_slice() == roles.as_slice());
+    assert!(rt;
+        protocol.roles.as_slice() == roles.as_slice(),
+        "the roles in order"
+    );
     // what stands after the first message, which is the second, and what stands after that
     let second = after_message(&protocol.body, b"a", b"b", Sort::Int);
     let last = after_message(second.expect(&rt, "a message"), b"b", b"c", Sort::Text);
-    assert!(rt; matches!(last, Some(Global::End)));
+    assert!(rt; matches!(last, Some(Global::End)), "the end comes last");
 }
 
 // The loop of the variable of these letters, if it is one.
@@ -171,17 +179,21 @@ fn after_label<'a>(branches: &'a Branches, letters: &[u8]) -> Option<(&'a Global
     }
 }
 
-// `read_protocol` reads a `rec` with its variable, and the branches of a choice in order, each with what follows it.
+// `mps_text::read_protocol` reads a `rec` with its variable, and the branches of a choice in order, each with what
+// follows it.
 #[test]
-fn reads_branches_and_recursion(rt: HostRuntime) {
+fn branches_and_loops_are_read_in_order(rt: HostRuntime) {
     let protocol = protocol(&rt, b"roles a b ; rec X . a -> b { go : X , stop : end }");
-    assert!(rt; check(&protocol).is_ok());
+    assert!(rt; check(&protocol).is_ok(), "a protocol without faults");
     let body = body_of_loop(&protocol.body, b"X").expect(&rt, "a loop");
     let branches = branches_of(body, b"a", b"b").expect(&rt, "a choice");
     let (go, others) = after_label(branches, b"go").expect(&rt, "a branch");
-    assert!(rt; matches!(go, Global::Var(_)));
+    assert!(rt; matches!(go, Global::Var(_)), "go leads back to X");
     let (stop, others) = after_label(others, b"stop").expect(&rt, "a branch");
-    assert!(rt; matches!((stop, others), (Global::End, Branches::NoMore)));
+    assert!(rt;
+        matches!((stop, others), (Global::End, Branches::NoMore)),
+        "stop ends, and is the last branch"
+    );
 }
 
 // Texts with a token that may not stand there, or that end where one is missing; and its byte, or the length.
@@ -239,9 +251,9 @@ const UNEXPECTED: &[Row] = &[
     (b"roles a b ; a -> b { l : end , m : end", 38),
 ];
 
-// `read_protocol` names the first token that can't follow those before it, or the end, as Unexpected.
+// `mps_text::read_protocol` names the first token that can't follow those before it, or the end, as Unexpected.
 #[test]
-fn names_missing_and_misplaced_tokens(rt: HostRuntime) {
+fn a_missing_or_misplaced_token_is_unexpected(rt: HostRuntime) {
     have_faults(&rt, TextKind::Unexpected, UNEXPECTED);
 }
 
@@ -274,9 +286,9 @@ const MALFORMED: &[Row] = &[
     (b"roles a b ; a -> b { l : end } -", 31),
 ];
 
-// `read_protocol` names the first bytes that are no token as Word, also after a whole protocol.
+// `mps_text::read_protocol` names the first bytes that are no token as Word, also after a whole protocol.
 #[test]
-fn names_malformed_words(rt: HostRuntime) {
+fn bytes_that_are_no_token_are_a_word(rt: HostRuntime) {
     have_faults(&rt, TextKind::Word, MALFORMED);
 }
 
@@ -295,9 +307,9 @@ const TRAILING: &[Row] = &[
     (b"roles a b ; a -> b { l : end } }", 31),
 ];
 
-// `read_protocol` names a token after a whole protocol as Trailing. A row that fails shows kind and byte, not its text.
+// `mps_text::read_protocol` names a token after a whole protocol as Trailing.
 #[test]
-fn names_what_stands_after_a_protocol(rt: HostRuntime) {
+fn a_token_after_a_protocol_is_trailing(rt: HostRuntime) {
     have_faults(&rt, TextKind::Trailing, TRAILING);
 }
 
@@ -312,9 +324,10 @@ const CHAINS: &[(usize, &[u8], Option<Fault>)] = &[
     (64, b"}", Some((TextKind::Unexpected, 972))),
 ];
 
-// `read_protocol` reads 64 levels and 65,536 bytes (MAX_TEXT_BYTES), and names the node or the byte after them.
+// `mps_text::read_protocol` reads 64 levels and 65,536 bytes (MAX_TEXT_BYTES), and names the node or the byte after
+// them.
 #[test]
-fn keeps_the_limits(rt: HostRuntime) {
+fn a_text_over_a_limit_is_refused_at_its_byte(rt: HostRuntime) {
     for row in CHAINS {
         has_fault(&rt, &chain(&rt, row.0, row.1), row.2);
     }
@@ -345,11 +358,14 @@ const CHOICES: &[(&[usize], Fault)] = &[
     (&[30, 31, 31, 31, 31, 31, 63], (TextKind::TooDeep, 3812)),
 ];
 
-// `read_protocol` reads 256 nodes in all, and names the token that begins one more.
+// `mps_text::read_protocol` reads 256 nodes in all, and names the token that begins one more.
 #[test]
-fn counts_the_nodes(rt: HostRuntime) {
+fn the_257th_node_is_named(rt: HostRuntime) {
     let most = protocol(&rt, &choice(&rt, MOST));
-    assert!(rt; check(&most).is_ok());
+    assert!(rt;
+        check(&most).is_ok(),
+        "a protocol of 256 nodes has no fault"
+    );
     for row in CHOICES {
         has_fault(&rt, &choice(&rt, row.0), Some(row.1));
     }
@@ -383,7 +399,7 @@ const WRITTEN: &[&[u8]] = &[
 // The protocol that the text says is written so, and read again.
 fn is_written(rt: &(impl Abort + AllocGlobal), text: &[u8], wanted: &[u8]) {
     let written = write_protocol(rt.alloc(), &protocol(rt, text)).expect(rt, "memory");
-    assert!(rt; written.as_slice() == wanted);
+    assert!(rt; written.as_slice() == wanted, "the text in its one form");
     has_fault(rt, &written, None);
 }
 
@@ -392,9 +408,9 @@ fn stays(rt: &(impl Abort + AllocGlobal), text: &[u8]) {
     is_written(rt, text, text);
 }
 
-// `write_protocol` writes a protocol in its one form, which is read again. `loose` has other blanks.
+// `mps_text::write_protocol` writes a protocol in its one form, which is read again. `loose` has other blanks.
 #[test]
-fn writes_what_it_read(rt: HostRuntime) {
+fn a_protocol_is_written_in_its_one_form(rt: HostRuntime) {
     for text in WRITTEN {
         stays(&rt, text);
     }
@@ -421,21 +437,25 @@ fn deep(rt: &(impl Abort + AllocGlobal), count: usize) -> Global {
     body
 }
 
-// `write_protocol` writes trees that no text spells, here 20,000 messages and a choice without branches.
+// `mps_text::write_protocol` writes trees that no text spells, here 20,000 messages and a choice without branches.
 #[test]
-fn writes_any_tree(rt: HostRuntime) {
+fn a_tree_that_no_text_spells_is_written(rt: HostRuntime) {
     let roles = vec![in rt.alloc(); name(&rt, "a"), name(&rt, "b")].expect(&rt, "memory");
     let protocol = Protocol {
         roles,
         body: deep(&rt, 20000),
     };
     let written = write_protocol(rt.alloc(), &protocol).expect(&rt, "memory");
-    assert!(rt; written.as_slice() == chain(&rt, 20000, b"a -> b { }").as_slice());
+    assert!(rt;
+        written.as_slice() == chain(&rt, 20000, b"a -> b { }").as_slice(),
+        "20,000 messages and a choice"
+    );
 }
 
-// A TextFault is displayed with its byte and kind. A law's call does nothing: it shows that others can call it so.
+// `mps_text::TextFault` is displayed with its byte and kind. A law's call does nothing: it shows that others can call
+// it so.
 #[test]
-fn shows_a_fault(rt: HostRuntime) {
+fn a_fault_is_shown_with_byte_and_kind(rt: HostRuntime) {
     let fault = TextFault {
         at: 25,
         kind: TextKind::Unexpected,
@@ -443,7 +463,8 @@ fn shows_a_fault(rt: HostRuntime) {
     let shown = format!(in rt.alloc(); "{fault}").expect(&rt, "memory");
     assert_eq!(rt;
         shown.as_str(),
-        "at byte 25: this token, or the end of the text, may not stand here"
+        "at byte 25: this token, or the end of the text, may not stand here",
+        "the fault as it is shown"
     );
     one_protocol();
     one_fault();

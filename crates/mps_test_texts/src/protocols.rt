@@ -11,7 +11,11 @@ type Checked = Result<(), GlobalFault>;
 
 // The check of what these roles may say is answered so.
 fn is_checked(rt: &(impl Abort + AllocGlobal), roles: &[&str], body: Global, answer: Checked) {
-    assert_eq!(rt; check(&protocol(rt, roles, body)), answer);
+    assert_eq!(rt;
+        check(&protocol(rt, roles, body)),
+        answer,
+        "of the roles {roles:?}"
+    );
 }
 
 // A message from `a` to `b`.
@@ -50,11 +54,12 @@ const LEVELS: &[(&[&str], u32, Checked)] = &[
     (&["b", "a", "b"], 0, Err(GlobalFault::DoubleRole)),
 ];
 
-// `check` allows 2 to 8 roles, 256 nodes and 64 levels, and names the first limit that is passed.
+// `mps_global::check` allows 2 to 8 roles, 256 nodes and 64 levels, and names the first limit that is passed.
 #[test]
-fn counts_roles_nodes_and_levels(rt: HostRuntime) {
+fn the_first_limit_that_is_passed_is_named(rt: HostRuntime) {
     for (roles, messages, answer) in LEVELS {
-        is_checked(&rt, roles, many(&rt, *messages, SENT), *answer);
+        let found = check(&protocol(&rt, roles, many(&rt, *messages, SENT)));
+        assert_eq!(rt; found, *answer, "{messages} messages of {roles:?}");
     }
 }
 
@@ -89,14 +94,15 @@ fn are_checked(
     roles: &[&str],
     rows: &[(&[Part<'static>], Checked)],
 ) {
-    for (parts, answer) in rows {
-        is_checked(rt, roles, chain(rt, parts), *answer);
+    for (row, (parts, answer)) in rows.iter().enumerate() {
+        let found = check(&protocol(rt, roles, chain(rt, parts)));
+        assert_eq!(rt; found, *answer, "row {row} (from 0)");
     }
 }
 
-// `check` refuses a message of an unknown role, or of a role to itself, and names the first fault.
+// `mps_global::check` refuses a message of an unknown role, or of a role to itself, and names the first fault.
 #[test]
-fn checks_messages(rt: HostRuntime) {
+fn a_message_of_unknown_or_equal_roles_is_refused(rt: HostRuntime) {
     are_checked(&rt, &NINE[..3], MESSAGES);
 }
 
@@ -156,9 +162,9 @@ const CHOICES: &[(&[Part<'static>], Checked)] = &[
     ),
 ];
 
-// `check` refuses a choice by its roles, and then by its labels: none, one twice, or more than 16.
+// `mps_global::check` refuses a choice by its roles, and then by its labels: none, one twice, or more than 16.
 #[test]
-fn checks_choices(rt: HostRuntime) {
+fn a_choice_is_refused_by_its_roles_and_labels(rt: HostRuntime) {
     are_checked(&rt, &NINE[..3], CHOICES);
 }
 
@@ -220,9 +226,10 @@ const VARIABLES: &[(&[Part<'static>], Checked)] = &[
     ),
 ];
 
-// `check` refuses a variable without its `rec` or right behind, a `rec` in one of its name. A law's call does nothing.
+// `mps_global::check` refuses a variable without its `rec` or right behind, a `rec` in one of its name. A law's call
+// does nothing.
 #[test]
-fn checks_variables(rt: HostRuntime) {
+fn a_variable_without_a_guarded_loop_is_refused(rt: HostRuntime) {
     are_checked(&rt, &NINE[..2], VARIABLES);
     size_laws();
     protocol_laws();
@@ -231,10 +238,11 @@ fn checks_variables(rt: HostRuntime) {
 // A choice with one branch, which holds one, and so on.
 const NESTED: &Part<'static> = &Part::Choice("a", "b", &["l"]);
 
-// 150,000 levels run the stack out where a function calls itself for each, as one that drops a tree may. 63 choices in
-// one another and the end are 64 levels, the most that `check` allows.
+// `mps_global::check` and dropping of `Global`: 150,000 levels run the stack out where a function calls itself for
+// each, as one that drops a tree may. 63 choices in one another and the end are 64 levels, the most that `check`
+// allows.
 #[test]
-fn drops_deep_trees(rt: HostRuntime) {
+fn a_deep_protocol_is_checked_and_dropped(rt: HostRuntime) {
     is_checked(&rt, TWO, many(&rt, 63, NESTED), Ok(()));
     is_checked(&rt, TWO, many(&rt, 64, NESTED), Err(GlobalFault::TooDeep));
     is_checked(
@@ -269,10 +277,10 @@ fn choice(rt: &impl Abort, from: &str, to: &str, branches: Branches) -> Global {
     }
 }
 
-// 150,000 branches run the stack out where a function calls itself for each, as one that drops a tree may. 300 branches
-// with 300 choices in one another are deep and wide.
+// `mps_global::check` and dropping of `Branches`: 150,000 branches run the stack out where a function calls itself for
+// each, as one that drops a tree may. 300 branches with 300 choices in one another are deep and wide.
 #[test]
-fn drops_wide_trees(rt: HostRuntime) {
+fn a_wide_protocol_is_checked_and_dropped(rt: HostRuntime) {
     drop(wide(&rt, 150_000, 0));
     let body = choice(&rt, "l", "l", wide(&rt, 300, 300));
     is_checked(&rt, TWO, body, Err(GlobalFault::TooManyNodes));
@@ -292,11 +300,14 @@ fn are_ends(branches: &Branches, labels: &[&str]) -> bool {
     rest.next().is_none()
 }
 
-// `Branches::iter` gives each label with what follows it, in order.
+// `mps_global::Branches::iter` gives each label with what follows it, in order.
 #[test]
-fn walks_branches(rt: HostRuntime) {
+fn branches_are_walked_in_order(rt: HostRuntime) {
     let labels = &["l", "m", "n"];
-    assert!(rt; are_ends(&branches(&rt, labels, Global::End), labels));
+    assert!(rt;
+        are_ends(&branches(&rt, labels, Global::End), labels),
+        "the labels l, m and n, each with an end"
+    );
 }
 
 // A choice of eight labels. After the last of them come so many messages, and after each other 31.
@@ -310,10 +321,10 @@ fn eight(rt: &(impl Abort + AllocGlobal), last: u32) -> Global {
     choice(rt, "a", "b", branches)
 }
 
-// `check` counts the nodes of all branches, of which there may be 256: the choice, seven branches of 31 messages and an
-// end, and one of 30 and an end.
+// `mps_global::check` counts the nodes of all branches, of which there may be 256: the choice, seven branches of 31
+// messages and an end, and one of 30 and an end.
 #[test]
-fn counts_nodes_over_branches(rt: HostRuntime) {
+fn the_nodes_of_all_branches_count(rt: HostRuntime) {
     is_checked(&rt, TWO, eight(&rt, 30), Ok(()));
     is_checked(&rt, TWO, eight(&rt, 31), Err(GlobalFault::TooManyNodes));
 }

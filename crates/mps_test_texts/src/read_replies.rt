@@ -91,12 +91,20 @@ fn is_read_again(rt: &(impl Abort + AllocGlobal), line: &[u8]) -> bool {
     is_same && written.as_slice() == line
 }
 
-// `read_answer` reads each kind of reply, `Reply::code` gives its code, and `Reply::write` writes the same line again.
+// `mps_line::read_answer` reads each kind of reply, `Reply::code` gives its code, and `Reply::write` writes the same
+// line again.
 #[test]
-fn reads_replies(rt: HostRuntime) {
+fn each_kind_of_reply_is_read_and_written_again(rt: HostRuntime) {
     for (line, code) in REPLIES {
-        assert_eq!(rt; reply(&rt, line.as_bytes()).code(), *code, "{line}");
-        assert!(rt; is_read_again(&rt, line.as_bytes()), "{line}");
+        assert_eq!(rt;
+            reply(&rt, line.as_bytes()).code(),
+            *code,
+            "the code of {line}"
+        );
+        assert!(rt;
+            is_read_again(&rt, line.as_bytes()),
+            "`{line}` is written again"
+        );
     }
 }
 
@@ -196,11 +204,11 @@ fn is_bad_reply(alloc: Global, line: &str) -> bool {
     matches!(read_answer(alloc, line.as_bytes()), Err(LineFault::Bad))
 }
 
-// `read_answer` says `Bad` of each line that is no reply.
+// `mps_line::read_answer` says `Bad` of each line that is no reply.
 #[test]
-fn bad_replies(rt: HostRuntime) {
+fn a_line_that_is_no_reply_is_bad(rt: HostRuntime) {
     for line in BAD_REPLIES {
-        assert!(rt; is_bad_reply(rt.alloc(), line), "{line}");
+        assert!(rt; is_bad_reply(rt.alloc(), line), "`{line}` is no reply");
     }
 }
 
@@ -217,12 +225,16 @@ fn numbered(rt: &(impl Abort + AllocGlobal), words: &[u8], last: u64) -> Vec<u8>
 // Words, and how many numbers stand behind them, from 1 on.
 const LONG: &[(&str, u64)] = &[("undone", 1_000), ("news 7", 1_000), ("{", 20_000)];
 
-// Replies may be of any length: 1,000 step numbers, and over 100,000 bytes that a brace makes a shown session.
+// `mps_line::read_answer` reads replies of any length: 1,000 step numbers, and over 100,000 bytes that a brace makes a
+// shown session.
 #[test]
-fn reads_long_replies(rt: HostRuntime) {
+fn a_reply_of_any_length_is_read(rt: HostRuntime) {
     for (words, last) in LONG {
         let line = numbered(&rt, words.as_bytes(), *last);
-        assert!(rt; is_read_again(&rt, &line), "{words}");
+        assert!(rt;
+            is_read_again(&rt, &line),
+            "`{words}` and its numbers are written again"
+        );
     }
 }
 
@@ -268,13 +280,14 @@ fn is_bad_join(line: &str) -> bool {
     matches!(read_join(line.as_bytes()), Err(LineFault::Bad))
 }
 
-// `read_join` reads `join`, a number below 2^64 and a name, each in its one spelling, and says `Bad` of all else.
+// `mps_line::read_join` reads `join`, a number below 2^64 and a name, each in its one spelling, and says `Bad` of all
+// else.
 #[test]
-fn reads_joins(rt: HostRuntime) {
+fn a_join_has_one_spelling(rt: HostRuntime) {
     for (line, session, name) in JOINS {
-        assert!(rt; is_join(line, *session, name), "{line}");
+        assert!(rt; is_join(line, *session, name), "what `{line}` joins");
     }
     for line in BAD_JOINS {
-        assert!(rt; is_bad_join(line), "{line}");
+        assert!(rt; is_bad_join(line), "`{line}` is no join");
     }
 }

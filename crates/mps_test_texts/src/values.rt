@@ -41,16 +41,20 @@ const NO_NAMES: &[&str] = &[
     "false",
 ];
 
-// `Name::read` gives a name exactly where the bytes are one, and the name has these bytes.
+// `mps_base::Name::read` gives a name exactly where the bytes are one, and the name has these bytes.
 #[test]
-fn names(rt: HostRuntime) {
+fn a_name_is_read_where_the_bytes_are_one(rt: HostRuntime) {
     for good in NAMES {
         let name = name(&rt, good);
-        assert_eq!(rt; name.as_bytes(), good.as_bytes());
-        assert!(rt; name.is(&name));
+        assert_eq!(rt;
+            name.as_bytes(),
+            good.as_bytes(),
+            "the bytes of the name `{good}`"
+        );
+        assert!(rt; name.is(&name), "`{good}` is itself");
     }
     for bad in NO_NAMES {
-        assert!(rt; Name::read(bad.as_bytes()).is_none(), "{bad}");
+        assert!(rt; Name::read(bad.as_bytes()).is_none(), "`{bad}` is no name");
     }
 }
 
@@ -72,16 +76,23 @@ const NO_VARIABLES: &[&str] = &[
     "ABCDEFGHIJKLMNOPQRSTUVWXYZ_012345",
 ];
 
-// `VarName::read` gives a variable exactly where the bytes are one, and the variable has these bytes.
+// `mps_base::VarName::read` gives a variable exactly where the bytes are one, and the variable has these bytes.
 #[test]
-fn variables(rt: HostRuntime) {
+fn a_variable_is_read_where_the_bytes_are_one(rt: HostRuntime) {
     for good in VARIABLES {
         let variable = VarName::read(good.as_bytes()).expect(&rt, "a variable");
-        assert_eq!(rt; variable.as_bytes(), good.as_bytes());
-        assert!(rt; variable.is(&variable));
+        assert_eq!(rt;
+            variable.as_bytes(),
+            good.as_bytes(),
+            "the bytes of the variable `{good}`"
+        );
+        assert!(rt; variable.is(&variable), "`{good}` is itself");
     }
     for bad in NO_VARIABLES {
-        assert!(rt; VarName::read(bad.as_bytes()).is_none(), "{bad}");
+        assert!(rt;
+            VarName::read(bad.as_bytes()).is_none(),
+            "`{bad}` is no variable"
+        );
     }
 }
 
@@ -140,14 +151,17 @@ fn is_no_value(alloc: Global, text: &[u8]) -> bool {
     matches!(Value::read(alloc, text), Err(ValueFault::Bad))
 }
 
-// `Value::read` gives a value exactly where the bytes spell one. `write` gives the same bytes, of a copy too.
+// `mps_base::Value::read` gives a value exactly where the bytes spell one. `write` gives the same bytes, of a copy too.
 #[test]
-fn values(rt: HostRuntime) {
+fn a_value_is_read_and_written_as_it_is_spelled(rt: HostRuntime) {
     for text in VALUES {
-        assert!(rt; is_spelled(&rt, text.as_bytes()), "{text}");
+        assert!(rt; is_spelled(&rt, text.as_bytes()), "the value `{text}`");
     }
     for text in NO_VALUES {
-        assert!(rt; is_no_value(rt.alloc(), text.as_bytes()), "{text}");
+        assert!(rt;
+            is_no_value(rt.alloc(), text.as_bytes()),
+            "`{text}` is no value"
+        );
     }
 }
 
@@ -164,21 +178,27 @@ fn text_of(rt: &(impl Abort + AllocGlobal), count: usize) -> Option<Text> {
     Text::new(vec![in rt.alloc(); b'x'; count].expect(rt, "memory"))
 }
 
-// A text has at most 256 bytes: of 257 `Value::read` and `Text::new` make none, of 256 there is one, and a copy.
+// `mps_base::Value::read` and `Text::new` make no text of 257 bytes; of 256, the most, there is one, and a copy.
 #[test]
-fn text_lengths(rt: HostRuntime) {
-    assert!(rt; is_no_value(rt.alloc(), &quoted(&rt, 257)));
+fn a_text_has_at_most_256_bytes(rt: HostRuntime) {
+    assert!(rt;
+        is_no_value(rt.alloc(), &quoted(&rt, 257)),
+        "no value of 257 bytes"
+    );
     let text = text_of(&rt, 256).expect(&rt, "a text");
     let copied = text.copy(rt.alloc()).expect(&rt, "memory");
-    assert_eq!(rt; copied.as_bytes().len(), 256);
-    assert!(rt; text_of(&rt, 257).is_none());
+    assert_eq!(rt; copied.as_bytes().len(), 256, "the copy of 256 bytes");
+    assert!(rt; text_of(&rt, 257).is_none(), "no text of 257 bytes");
 }
 
-// Each text of 0 to 256 letters, in quotes, is read, and written and copied as it was read.
+// `mps_base::Value::read`: each text of 0 to 256 letters, in quotes, is read, and written and copied as it was read.
 #[test]
-fn texts_of_each_length(rt: HostRuntime) {
+fn a_text_of_each_length_is_read_and_written(rt: HostRuntime) {
     for count in 0..257 {
-        assert!(rt; is_spelled(&rt, &quoted(&rt, count)), "{count}");
+        assert!(rt;
+            is_spelled(&rt, &quoted(&rt, count)),
+            "a text of {count} letters"
+        );
     }
 }
 
@@ -194,13 +214,16 @@ fn is_of(value: &Value, sort: Sort) -> bool {
     value.sort() == sort && value.fits(sort)
 }
 
-// A value is of its own sort: `Value::sort` and `Value::fits` say so, and an int does not fit bool.
+// `mps_base::Value::sort` and `Value::fits`: a value is of its own sort, and an int does not fit bool.
 #[test]
-fn sorts(rt: HostRuntime) {
+fn a_value_fits_its_own_sort(rt: HostRuntime) {
     for (text, sort) in SORTS {
-        assert!(rt; is_of(&value(&rt, text.as_bytes()), *sort), "{text}");
+        assert!(rt;
+            is_of(&value(&rt, text.as_bytes()), *sort),
+            "the sort of `{text}`"
+        );
     }
-    assert!(rt; !Value::Int(1).fits(Sort::Bool));
+    assert!(rt; !Value::Int(1).fits(Sort::Bool), "an int is no bool");
 }
 
 // The least number, one more, and the greatest, 2^64 - 1.
@@ -216,14 +239,18 @@ fn is_number_text(rt: &(impl Abort + AllocGlobal), text: &[u8], number: u64) -> 
     read_number(text) == Some(number) && out.as_slice().get(1..) == Some(text)
 }
 
-// `read_number` reads just the numbers below 2^64, in one spelling each. `write_number` appends it, here after a `#`.
+// `mps_base::read_number` reads just the numbers below 2^64, in one spelling each. `write_number` appends it, here
+// after a `#`.
 #[test]
-fn numbers(rt: HostRuntime) {
+fn a_number_below_2_to_the_64_is_read_and_written(rt: HostRuntime) {
     for (text, number) in NUMBERS {
-        assert!(rt; is_number_text(&rt, text.as_bytes(), *number), "{text}");
+        assert!(rt;
+            is_number_text(&rt, text.as_bytes(), *number),
+            "the number `{text}`"
+        );
     }
     for bad in NO_NUMBERS {
-        assert_eq!(rt; read_number(bad.as_bytes()), None, "{bad}");
+        assert_eq!(rt; read_number(bad.as_bytes()), None, "`{bad}` is no number");
     }
 }
 
@@ -273,13 +300,13 @@ fn is_double(rt: &(impl Abort + AllocGlobal)) -> bool {
     )
 }
 
-// `Roles::of` takes 2 to 8 names, all of them different, and a copy has as many.
+// `mps_base::Roles::of` takes 2 to 8 names, all of them different, and a copy has as many.
 #[test]
-fn role_lists(rt: HostRuntime) {
+fn two_to_eight_different_names_are_roles(rt: HostRuntime) {
     for (names, wanted) in COUNTS {
-        assert_eq!(rt; counted(&rt, *names), *wanted);
+        assert_eq!(rt; counted(&rt, *names), *wanted, "{names} names");
     }
-    assert!(rt; is_double(&rt));
+    assert!(rt; is_double(&rt), "a name twice");
 }
 
 // The roles a, b and c.
@@ -290,15 +317,23 @@ fn three(rt: &(impl Abort + AllocGlobal)) -> Roles {
 // Not the name of any of a, b and c: nothing, another name, a capital, more letters, a reserved word.
 const NO_ROLES: &[&[u8]] = &[b"", b"d", b"C", b"cc", b"end"];
 
-// `Roles::find` and `find_spelled` give the role of that name, here c at place 2, and none where no role has it.
+// `mps_base::Roles::find` and `find_spelled` give the role of that name, here c at place 2, and none where no role has
+// it.
 #[test]
-fn finds_roles(rt: HostRuntime) {
+fn a_role_is_found_by_its_name(rt: HostRuntime) {
     let roles = three(&rt);
     let (c, d) = (name(&rt, "c"), name(&rt, "d"));
-    assert!(rt; is_found(&roles, &c, 2) && roles.find(&d).is_none());
-    assert_eq!(rt; roles.find_spelled(b"c"), roles.find(&c));
+    assert!(rt;
+        is_found(&roles, &c, 2) && roles.find(&d).is_none(),
+        "c is found at place 2, and d is not"
+    );
+    assert_eq!(rt;
+        roles.find_spelled(b"c"),
+        roles.find(&c),
+        "c is found as it is spelled"
+    );
     for bytes in NO_ROLES {
-        assert!(rt; roles.find_spelled(bytes).is_none());
+        assert!(rt; roles.find_spelled(bytes).is_none(), "{bytes:?} is no role");
     }
 }
 
@@ -316,12 +351,13 @@ fn is_copied(rt: &(impl Abort + AllocGlobal), step: &Step) -> bool {
 // A step of this act and its copy are shown alike.
 fn copies(rt: &(impl Abort + AllocGlobal), act: Act) {
     let (id, role) = (StepId::new(4), Role::new(2));
-    assert!(rt; is_copied(rt, &Step { id, role, act }));
+    assert!(rt; is_copied(rt, &Step { id, role, act }), "the copied step");
 }
 
-// `Step::copy` gives an equal step, whatever its act: an output, an input, a mark, a commit. Its numbers stand for any.
+// `mps_base::Step::copy` gives an equal step, whatever its act: an output, an input, a mark, a commit. Its numbers
+// stand for any.
 #[test]
-fn copied_steps(rt: HostRuntime) {
+fn a_copied_step_is_equal(rt: HostRuntime) {
     let label = name(&rt, "yes");
     let message = Message::Value(value(&rt, b"\"good day\""));
     let to = Role::new(1);
@@ -354,15 +390,18 @@ fn copy_of(rt: &(impl Abort + AllocGlobal), message: &Message) -> Message {
     message.copy(rt.alloc()).expect(rt, "memory")
 }
 
-// `Message::copy` gives an equal message: two ints, which stand for any, and a label.
+// `mps_base::Message::copy` gives an equal message: two ints, which stand for any, and a label.
 #[test]
-fn copied_messages(rt: HostRuntime) {
+fn a_copied_message_is_equal(rt: HostRuntime) {
     for number in [5, 7] {
         let copied = copy_of(&rt, &Message::Value(Value::Int(number)));
-        assert!(rt; is_number(&copied, number), "{number}");
+        assert!(rt; is_number(&copied, number), "the copy of {number}");
     }
     let label = name(&rt, "yes");
-    assert!(rt; is_label(&copy_of(&rt, &Message::Label(label)), &label));
+    assert!(rt;
+        is_label(&copy_of(&rt, &Message::Label(label)), &label),
+        "the copied label"
+    );
 }
 
 // Whether the name of this letter is a role's at the place.
@@ -372,13 +411,16 @@ fn is_at(rt: &impl Abort, roles: &Roles, text: &str, place: usize) -> bool {
     is_found(roles, &name, place) && again.is(&name) && again.as_bytes() == text.as_bytes()
 }
 
-// `Roles::copy` has a, b and c at the places 0, 1 and 2.
+// `mps_base::Roles::copy` has a, b and c at the places 0, 1 and 2.
 #[test]
-fn copied_roles(rt: HostRuntime) {
+fn copied_roles_keep_their_places(rt: HostRuntime) {
     let copied = three(&rt).copy(rt.alloc()).expect(&rt, "memory");
-    assert_eq!(rt; copied.count(), 3);
+    assert_eq!(rt; copied.count(), 3, "three roles");
     for (letter, place) in LETTERS.iter().take(3).zip(0..) {
-        assert!(rt; is_at(&rt, &copied, letter, place), "{letter}");
+        assert!(rt;
+            is_at(&rt, &copied, letter, place),
+            "the place of `{letter}`"
+        );
     }
 }
 
@@ -387,13 +429,17 @@ fn put(rt: &impl Abort, text: &mut Vec<u8>, token: &[u8]) {
     push_token(text, token).expect(rt, "memory");
 }
 
-// `push_token` puts one space between two tokens, and none before the first. A law's call does nothing.
+// `mps_base::push_token` puts one space between two tokens, and none before the first. A law's call does nothing.
 #[test]
-fn spaces_tokens(rt: HostRuntime) {
+fn one_space_stands_between_two_tokens(rt: HostRuntime) {
     let mut text = Vec::new(rt.alloc());
     put(&rt, &mut text, b"a");
     put(&rt, &mut text, b"->");
     put(&rt, &mut text, b"b");
-    assert_eq!(rt; text.as_slice(), b"a -> b".as_slice());
+    assert_eq!(rt;
+        text.as_slice(),
+        b"a -> b".as_slice(),
+        "one space between two tokens"
+    );
     spacing::written_spaced();
 }

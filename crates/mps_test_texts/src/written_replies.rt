@@ -9,7 +9,10 @@ use std::process::Abort;
 fn is_written(rt: &(impl Abort + AllocGlobal), reply: &Reply, line: &str) {
     let mut out = Vec::from_slice(rt.alloc(), b"#").expect(rt, "memory");
     reply.write(&mut out).expect(rt, "memory");
-    assert!(rt; out.as_slice() == line.as_bytes(), "{line}");
+    assert!(rt;
+        out.as_slice() == line.as_bytes(),
+        "the reply written as {line}"
+    );
 }
 
 // The same of the answer alone.
@@ -28,9 +31,10 @@ fn is_taken(rt: &(impl Abort + AllocGlobal), number: u64, value: Value, line: &s
     is_done(rt, number, Some(Message::Value(value)), line);
 }
 
-// `Reply::write` appends a new step's number and what the step took: nothing, a truth value, an int, a label, a text.
+// `mps_line::Reply::write` appends a new step's number and what the step took: nothing, a truth value, an int, a label,
+// a text.
 #[test]
-fn done(rt: HostRuntime) {
+fn a_step_done_is_written_with_what_it_took(rt: HostRuntime) {
     is_done(&rt, 1, None, "#done 1");
     is_done(&rt, 0, None, "#done 0");
     is_taken(
@@ -63,9 +67,10 @@ const UNDONE: &[(&[u64], &str)] = &[
     (&[0, u64::MAX], "#undone 0 18446744073709551615"),
 ];
 
-// `Reply::write` appends the numbers of the steps taken back, in their order. The last list is kept without a vector.
+// `mps_line::Reply::write` appends the numbers of the steps taken back, in their order. The last list is kept without a
+// vector.
 #[test]
-fn undone(rt: HostRuntime) {
+fn steps_undone_are_written_in_order(rt: HostRuntime) {
     for (numbers, line) in UNDONE {
         is_answer(&rt, Answer::Undone(listed(&rt, numbers)), line);
     }
@@ -94,17 +99,17 @@ fn is_news(rt: &(impl Abort + AllocGlobal), length: u64, numbers: &[u64], line: 
     is_answer(rt, Answer::News { length, ids }, line);
 }
 
-// `Reply::write` appends the length of the journal, and the numbers in their order.
+// `mps_line::Reply::write` appends the length of the journal, and the numbers in their order.
 #[test]
-fn news(rt: HostRuntime) {
+fn news_are_written_with_the_length_of_the_journal(rt: HostRuntime) {
     for (length, numbers, line) in NEWS {
         is_news(&rt, *length, numbers, line);
     }
 }
 
-// `Reply::write` appends a shown session as it is.
+// `mps_line::Reply::write` appends a shown session as it is.
 #[test]
-fn shown_sessions(rt: HostRuntime) {
+fn a_shown_session_is_written_as_it_is(rt: HostRuntime) {
     let text = Vec::from_slice(rt.alloc(), b"{\"history\":[]}").expect(&rt, "memory");
     is_answer(&rt, Answer::Shown(ShownText::of(text)), "#{\"history\":[]}");
 }
@@ -125,9 +130,9 @@ fn is_refused(rt: &(impl Abort + AllocGlobal), refusal: Refusal, line: &str) {
     is_answer(rt, Answer::Refused(refusal), line);
 }
 
-// `Reply::write` appends each reason for which a room refuses a command, `needed` and `final` with the step.
+// `mps_line::Reply::write` appends each reason for which a room refuses a command, `needed` and `final` with the step.
 #[test]
-fn refused(rt: HostRuntime) {
+fn each_refusal_of_a_room_is_written(rt: HostRuntime) {
     for (violation, line) in VIOLATIONS {
         is_refused(&rt, Refusal::Violation(*violation), line);
     }
@@ -147,9 +152,9 @@ fn refused(rt: HostRuntime) {
     );
 }
 
-// `Reply::write` appends each refusal that a script, a conversation or a server gives by itself.
+// `mps_line::Reply::write` appends each refusal that a script, a conversation or a server gives by itself.
 #[test]
-fn refusals_that_no_room_gives(rt: HostRuntime) {
+fn each_refusal_that_no_room_gives_is_written(rt: HostRuntime) {
     is_written(&rt, &Reply::BadLine, "#refused line");
     is_written(&rt, &Reply::NoSession, "#refused nosession");
     is_written(&rt, &Reply::NoRole, "#refused norole");

@@ -3,6 +3,7 @@ use crate::sessions::RELAY;
 use mps_embed::Embedded;
 use mps_open::open_text;
 use std::alloc::Global;
+use std::process::Abort;
 
 // How many bytes of an answer are looked at: as many as the longest here has, or more.
 const MOST: usize = 16;
@@ -31,24 +32,37 @@ fn writes(room: &Embedded, out: &mut Vec<u8>, answer: &[u8]) -> bool {
     room.write_answer(out).is_ok() && out.as_slice() == answer
 }
 
-// Whether such lines are answered as they should be, of roles and of a name that is none.
-fn embeds(alloc: Global, room: &mut Embedded) -> bool {
+// Such lines are answered as they should be, of roles and of a name that is none.
+fn embeds(rt: &impl Abort, alloc: Global, room: &mut Embedded) {
     let mut out = Vec::new(alloc);
-    gets(room, b"a", b"send b 5", b"done 1")
-        && gets(room, b"b", b"recv a x", b"done 2 5")
-        && writes(&*room, &mut out, b"done 2 5")
-        && gets(room, b"z", b"mark m", b"refused norole")
-        && has_entry(room, 0, b"a send b", 10)
-        && has_entry(room, 2, b"", 0)
-        && room.room().entries() == 2
+    assert!(rt; gets(room, b"a", b"send b 5", b"done 1"), "a's send");
+    assert!(rt; gets(room, b"b", b"recv a x", b"done 2 5"), "b's receipt");
+    assert!(rt;
+        writes(&*room, &mut out, b"done 2 5"),
+        "the same answer in a vector"
+    );
+    assert!(rt; gets(room, b"z", b"mark m", b"refused norole"), "no role z");
 }
 
-// Whether each role's numbers are its own.
-fn numbers(room: &mut Embedded) -> bool {
-    gets(room, b"a", b"1 send b 5", b"done 1")
-        && gets(room, b"b", b"1 mark m", b"done 2")
-        && gets(room, b"a", b"1 send b 5", b"done 1")
-        && gets(room, b"a", b"3 mark m", b"refused number")
+// There are two entries, of which the first has 10 bytes, and no third.
+fn has_two_entries(rt: &impl Abort, room: &mut Embedded) {
+    assert!(rt; has_entry(room, 0, b"a send b", 10), "the first entry");
+    assert!(rt; has_entry(room, 2, b"", 0), "no third entry");
+    assert!(rt; room.room().entries() == 2, "two entries");
+}
+
+// Each role's numbers are its own.
+fn numbers(rt: &impl Abort, room: &mut Embedded) {
+    assert!(rt; gets(room, b"a", b"1 send b 5", b"done 1"), "a's number 1");
+    assert!(rt; gets(room, b"b", b"1 mark m", b"done 2"), "b's number 1");
+    assert!(rt;
+        gets(room, b"a", b"1 send b 5", b"done 1"),
+        "a's number 1 again"
+    );
+    assert!(rt;
+        gets(room, b"a", b"3 mark m", b"refused number"),
+        "a's number 3 before 2"
+    );
 }
 
 // Whether the text gives no session, for the fault of that number and place.
@@ -57,35 +71,38 @@ fn gives_none(alloc: Global, text: &[u8], number: u32, place: u64) -> bool {
     fault.map(|f| (f.number(), f.place())) == Some((number, place))
 }
 
-// `Embedded` answers a line of a role, and one of a name that is no role, and gives answers and entries into a buffer.
+// `mps_embed::Embedded` answers a line of a role, and one of a name that is no role, and gives answers and entries into
+// a buffer.
 #[test]
-fn embeds_a_room(rt: HostRuntime) {
-    let room = Embedded::open(rt.alloc(), RELAY);
-    let embedded = match room {
-        Ok(mut room) => embeds(rt.alloc(), &mut room),
-        Err(_) => false,
-    };
-    assert!(rt; embedded);
+fn an_embedded_room_answers_each_line(rt: HostRuntime) {
+    let mut room = Embedded::open(rt.alloc(), RELAY).ok().expect(&rt, "a room");
+    embeds(&rt, rt.alloc(), &mut room);
+    has_two_entries(&rt, &mut room);
 }
 
-// `Embedded` runs a number of a role once, and each role has numbers of its own.
+// `mps_embed::Embedded` runs a number of a role once, and each role has numbers of its own.
 #[test]
-fn embeds_numbers_of_each_role(rt: HostRuntime) {
-    let room = Embedded::open(rt.alloc(), RELAY);
-    let numbered = match room {
-        Ok(mut room) => numbers(&mut room),
-        Err(_) => false,
-    };
-    assert!(rt; numbered);
+fn each_role_of_an_embedded_room_has_its_own_numbers(rt: HostRuntime) {
+    let mut room = Embedded::open(rt.alloc(), RELAY).ok().expect(&rt, "a room");
+    numbers(&rt, &mut room);
 }
 
-// `open_text` gives a fault, with a number and a place: a malformed word is 17, at its byte; a role that sends to
-// itself 37; no type for the role at place 2 is 48 and 2, at the choice.
+// `mps_open::open_text` gives a fault, with a number and a place: a malformed word is 17, here at byte 17; a role that
+// sends to itself is 37, with the place 0; no type for the role at place 2 is 48 and 2, so 50, with the choice, 0.
 #[test]
-fn names_why_a_text_gives_no_session(rt: HostRuntime) {
+fn a_text_that_gives_no_session_is_told_why(rt: HostRuntime) {
     let alloc = rt.alloc();
-    assert!(rt; gives_none(alloc, b"roles a b ; a -> Bc : int . end", 17, 17));
-    assert!(rt; gives_none(alloc, b"roles a b ; a -> a : int . end", 37, 0));
+    assert!(rt;
+        gives_none(alloc, b"roles a b ; a -> Bc : int . end", 17, 17),
+        "a malformed word at byte 17"
+    );
+    assert!(rt;
+        gives_none(alloc, b"roles a b ; a -> a : int . end", 37, 0),
+        "a message from a role to itself"
+    );
     let unmerged = b"roles a b c ; a -> b { l : a -> c : int . end , r : end }";
-    assert!(rt; gives_none(alloc, unmerged, 50, 0));
+    assert!(rt;
+        gives_none(alloc, unmerged, 50, 0),
+        "no type for c, for choice 0"
+    );
 }

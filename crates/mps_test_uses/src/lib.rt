@@ -5,6 +5,8 @@
 #[cfg(test)]
 mod embedding;
 #[cfg(test)]
+mod lines_and_servers;
+#[cfg(test)]
 mod rooms;
 #[cfg(test)]
 mod sessions;

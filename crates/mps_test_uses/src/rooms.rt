@@ -28,26 +28,34 @@ pub(crate) fn relay(alloc: Global) -> Result<(Roles, Session), Fail>
     Ok((names, session))
 }
 
-// The calls that the README of mps_room shows. No step has the number 1 or 2, and nothing is in the journal yet.
+// mps_room: `Room::open`, `apply` and `news`, `Solo::new` and `call_numbered`: the calls that its README shows. No step
+// has the number 1 or 2, and nothing is in the journal yet.
 #[test]
-fn calls_a_room(rt: HostRuntime) -> Result<(), Fail> {
+fn the_calls_that_mps_room_shows_are_answered(rt: HostRuntime) -> Result<(), Fail> {
     let alloc = rt.alloc();
     let (names, session) = relay(alloc)?;
     let (a, b) = (Role::new(0), Role::new(1));
     let mut room = Room::open(alloc, names, session);
     let answer = room.apply(a, Command::Undo(StepId::new(1)));
-    assert!(rt; matches!(answer, Answer::Refused(Refusal::NoStep)));
+    assert!(rt;
+        matches!(answer, Answer::Refused(Refusal::NoStep)),
+        "the undo of 1 finds no step"
+    );
     let (length, ids) = room.news(b, 0)?;
-    assert!(rt; length == 0 && ids.as_slice().is_empty());
+    assert_eq!(rt; length, 0, "the count of entries in the news");
+    assert!(rt; ids.as_slice().is_empty(), "no step was taken back");
     let mut caller = Solo::new(room, a);
     let told = call_numbered(&mut caller, 1, Command::Undo(StepId::new(2)));
-    assert!(rt; matches!(told, Told::Refused(Refusal::NoStep)));
+    assert!(rt;
+        matches!(told, Told::Refused(Refusal::NoStep)),
+        "the numbered undo of 2 finds no step"
+    );
     Ok(())
 }
 
-// `converse` runs a line of a role, and writes its answer, as the tour shows.
+// mps_wire: `converse` runs a line of a role, and writes its answer, as the tour shows.
 #[test]
-fn holds_a_conversation(rt: HostRuntime) -> Result<(), Fail> {
+fn a_conversation_of_the_tour_is_answered(rt: HostRuntime) -> Result<(), Fail> {
     let alloc = rt.alloc();
     let (names, session) = relay(alloc)?;
     let a = Role::new(0);
@@ -58,7 +66,11 @@ fn holds_a_conversation(rt: HostRuntime) -> Result<(), Fail> {
     let mut writer = Short::new(alloc, 99)?;
     let mut caller = Solo::new(Room::open(alloc, names, session), a);
     let ending = converse(alloc, &mut caller, &mut reader, &mut writer);
-    assert!(rt; ending == Ending::Closed);
-    assert_eq!(rt; writer.bytes(), b"done 1\n".as_slice());
+    assert!(rt; ending == Ending::Closed, "the end of what is said");
+    assert_eq!(rt;
+        writer.bytes(),
+        b"done 1\n".as_slice(),
+        "the answer to the send"
+    );
     Ok(())
 }

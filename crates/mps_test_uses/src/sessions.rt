@@ -10,7 +10,8 @@ use std::test::Fail;
 // a gives b an int, and b gives c one.
 pub(crate) const RELAY: &[u8] = b"roles a b c ; a -> b : int . b -> c : int . end";
 
-// A session of a protocol, as the tour opens it: a send and its undo leave no step.
+// mps_session: `open_protocol`, `Session::forward`, `undo` and `len`: a session of a protocol, as the tour opens it. A
+// send and its undo leave no step.
 #[test]
 fn takes_a_step_back(rt: HostRuntime) -> Result<(), Fail> {
     let alloc = rt.alloc();
@@ -23,13 +24,14 @@ fn takes_a_step_back(rt: HostRuntime) -> Result<(), Fail> {
     let value = Value::Int(5);
     let done = session.forward(a, Forward::Send { to: b, value })?;
     session.undo(a, done.id)?;
-    assert_eq!(rt; session.len(), 0);
+    assert_eq!(rt; session.len(), 0, "no step is left");
     Ok(())
 }
 
-// The calls that the README of mps_session shows: after its send a's type has ended, until that is undone.
+// mps_session: `Session::open`, `forward`, `expect` and `undo`: the calls that its README shows. After its one send a's
+// type has ended, until that is undone.
 #[test]
-fn opens_a_session_of_types(rt: HostRuntime) -> Result<(), Fail> {
+fn a_type_ends_after_its_only_send(rt: HostRuntime) -> Result<(), Fail> {
     let alloc = rt.alloc();
     let protocol = read_protocol(alloc, RELAY)?;
     check(&protocol)?;
@@ -42,7 +44,7 @@ fn opens_a_session_of_types(rt: HostRuntime) -> Result<(), Fail> {
     let value = Value::Int(5);
     let done = session.forward(a, Forward::Send { to: b, value })?;
     let next = session.expect(a);
-    assert!(rt; matches!(next, Expect::End));
+    assert!(rt; matches!(next, Expect::End), "a's type has ended");
     session.undo(a, done.id)?;
     Ok(())
 }

@@ -1,6 +1,7 @@
-//! The crates from mps_dev to mps_hub: each name that callers use, once, with its arguments: whoever renames one finds
-//! it here. A test is called after the crates whose names it has. A call that requires what can't be shown in a line is
-//! made by a function that requires the same.
+//! The crates from mps_base to mps_cell: each name that callers use, once, with its arguments: whoever renames one
+//! finds it here, or in lines_and_servers.rt. The comment of a test begins with the crates, and with those of their
+//! names, that it has. A call that requires what can't be shown in a line is made by a function that requires the same.
+//! The text is RELAY of sessions.rt: a, b and c are its roles at the places 0, 1 and 2.
 ghost use Rattle.std.specs.Prelude.{◌≡◌, ◌<◌, ◌≤◌, ◌^◌, [], None, IsSome, IsTrue, IfOk, length, false};
 ghost use Rattle.mps_arena.specs.Keys.{last_key};
 ghost use Rattle.mps_arena.specs.KeyedSteps.{HasSmallPeer, keyed_at, keys_of, steps};
@@ -10,8 +11,6 @@ ghost use Rattle.mps_command.specs.Changes.{change_of};
 ghost use Rattle.mps_global.specs.Global.{plain as global_type};
 ghost use Rattle.mps_global.specs.Faults.{fault_of};
 ghost use Rattle.mps_history.specs.Steps.{receives, sends, step_of};
-ghost use Rattle.mps_hub.specs.Places.{IsOfSession, IsSession};
-ghost use Rattle.mps_line.specs.Commands.{NamesRolesOf};
 ghost use Rattle.mps_links.specs.Marks.{AreMarksClosed, marked_keys};
 ghost use Rattle.mps_local.specs.Local.{plain};
 ghost use Rattle.mps_local.specs.Shape.{AllPeers};
@@ -21,114 +20,34 @@ ghost use Rattle.mps_table.specs.Graph.{HasNext, IsNode};
 
 use crate::rooms::relay;
 use crate::sessions::RELAY;
-use mps_arena::Arena;
-use mps_arena::Before;
-use mps_arena::Key;
-use mps_arena::Step;
-use mps_base::Act;
-use mps_base::Message;
-use mps_base::Name;
-use mps_base::Role;
-use mps_base::Roles;
-use mps_base::Sort;
-use mps_base::StepId;
-use mps_base::Value;
-use mps_base::VarName;
-use mps_cell::Busy;
-use mps_cell::Cell;
-use mps_cell::Held;
-use mps_cell::Leave;
-use mps_cell::Pass;
-use mps_cell::PassFault;
-use mps_cell::Pause;
-use mps_cell::meet;
-use mps_command::Answer;
-use mps_command::Command;
-use mps_dev::OverRead;
-use mps_dev::OverWrite;
-use mps_dev::Pieces;
-use mps_dev::Short;
-use mps_dev::Sink;
-use mps_dev::Source;
-use mps_global::GlobalFault;
-use mps_global::Protocol;
-use mps_global::check;
-use mps_hub::Desk;
-use mps_hub::Gate;
-use mps_hub::Hub;
-use mps_hub::JoinFault;
-use mps_hub::ServeFault;
-use mps_hub::Served;
-use mps_hub::serve;
-use mps_hub::serve_with;
-use mps_line::LineFault;
-use mps_line::Reply;
-use mps_line::read_answer;
-use mps_line::read_command;
-use mps_line::read_join;
-use mps_line::read_numbered;
-use mps_line::read_script_line;
-use mps_line::write_answer;
-use mps_line::write_command;
-use mps_line::write_kept;
-use mps_links::least_dependent;
-use mps_links::least_final;
-use mps_links::mark_from;
-use mps_links::unmark;
-use mps_local::Local;
-use mps_local::LocalFault;
-use mps_local::ProjectFault;
-use mps_local::project;
-use mps_local::write_local;
-use mps_monitor::Advance;
-use mps_monitor::Forward;
-use mps_monitor::Violation;
-use mps_monitor::judge;
+use mps_arena::{Arena, Before, Key, Step};
+use mps_base::{Act, Message, Name, Role, Roles, Sort, StepId, Value, VarName};
+use mps_cell::{Busy, Cell, Held, Leave, Pass, PassFault, Pause, meet};
+use mps_command::{Answer, Command};
+use mps_global::{GlobalFault, Protocol, check};
+use mps_links::{least_dependent, least_final, mark_from, unmark};
+use mps_local::{Local, LocalFault, ProjectFault, project, write_local};
+use mps_monitor::{Advance, Forward, Violation, judge};
 use mps_queues::Queues;
-use mps_room::Caller;
-use mps_room::Room;
-use mps_room::Solo;
-use mps_room::Told;
-use mps_room::call_numbered;
-use mps_session::Expect;
-use mps_session::OpenFault;
-use mps_session::ProtocolFault;
-use mps_session::Refusal;
-use mps_session::Session;
-use mps_session::open_protocol;
-use mps_session::same;
+use mps_room::{Caller, Room, Solo, Told, call_numbered};
+use mps_session::{Expect, OpenFault, ProtocolFault, Refusal, Session, open_protocol, same};
 use mps_stores::Stores;
-use mps_table::Node;
-use mps_table::Table;
-use mps_table::compile;
-use mps_text::TextFault;
-use mps_text::TextKind;
-use mps_text::read_protocol;
-use mps_text::write_protocol;
-use mps_wire::Ending;
-use mps_wire::Line;
-use mps_wire::Lines;
-use mps_wire::ReplayFault;
-use mps_wire::converse;
-use mps_wire::replay;
-use mps_wire::replay_session;
-use std::alloc::AllocError;
-use std::alloc::Global;
+use mps_table::{Node, Table, compile};
+use mps_text::{TextFault, TextKind, read_protocol, write_protocol};
+use std::alloc::{AllocError, Global};
 use std::cmp::Ordering;
-use std::net::TcpListener;
+use std::process::Abort;
 use std::sync::Wait;
 use std::test::Fail;
-use std::thread::Threads;
-use std::time::Clock;
 
 // The roles at the places 0 and 1.
-fn a() -> Role
+pub(crate) fn a() -> Role
     ensures { result ≡ 0 }
 {
     Role::new(0)
 }
 
-fn b() -> Role
+pub(crate) fn b() -> Role
     ensures { result ≡ 1 }
 {
     Role::new(1)
@@ -136,29 +55,32 @@ fn b() -> Role
 
 // ---- names, values and acts
 
-// A name is read, and a role has a place, found by its name.
+// mps_base: `Name::read`, `VarName::read`, `Roles::of`, `count`, `find` and `name`: of the roles a and b the
+// second, b, has place 1.
 #[test]
-fn names_and_roles_of_mps_base(rt: HostRuntime) -> Result<(), Fail> {
+fn a_role_of_mps_base_is_found_by_its_name(rt: HostRuntime) -> Result<(), Fail> {
     let alloc = rt.alloc();
     let first = Name::read(b"a").expect(&rt, "a name");
     let second = Name::read(b"b").expect(&rt, "a name");
-    assert!(rt; VarName::read(b"X").is_some());
+    assert!(rt; VarName::read(b"X").is_some(), "X is a variable");
     let roles = Roles::of(alloc, &[first, second])?;
-    assert!(rt; roles.count() == 2 && roles.find(&second) == Some(b()));
-    assert!(rt; roles.name(b()).is_spelled(b"b"));
+    assert_eq!(rt; roles.count(), 2, "the count of the roles a and b");
+    assert_eq!(rt; roles.find(&second), Some(b()), "the place of b");
+    assert!(rt; roles.name(b()).is_spelled(b"b"), "the name at place 1, b");
     Ok(())
 }
 
-// A value is read, written and copied.
+// mps_base: `Value::read`, `write`, `sort` and `copy`: the text 5 is the int 5, is written as it was, and copied.
 #[test]
-fn values_of_mps_base(rt: HostRuntime) -> Result<(), Fail> {
+fn a_value_of_mps_base_is_read_written_and_copied(rt: HostRuntime) -> Result<(), Fail> {
     let alloc = rt.alloc();
     let value = Value::read(alloc, b"5")?;
     let mut out = Vec::new(alloc);
     value.write(&mut out)?;
-    assert!(rt; value.sort() == Sort::Int && out.as_slice() == b"5".as_slice());
+    assert!(rt; value.sort() == Sort::Int, "the sort of 5, int");
+    assert_eq!(rt; out.as_slice(), b"5".as_slice(), "5 as it is written");
     let copied = value.copy(alloc)?;
-    assert!(rt; matches!(copied, Value::Int(5)));
+    assert!(rt; matches!(copied, Value::Int(5)), "the copy of 5");
     Ok(())
 }
 
@@ -179,28 +101,32 @@ fn kind_of(act: &Act) -> u8 {
     }
 }
 
-// Each act and each message is named by `kind_of`; two of them are made.
+// mps_base: `Act` and `Message`: `kind_of` names each of them, and numbers the acts for this test; of two that are
+// made, a commit is 3 there, and an input 1.
 #[test]
-fn acts_of_mps_base(rt: HostRuntime) {
-    assert!(rt; kind_of(&Act::Commit) == 3);
-    assert!(rt;
+fn each_act_of_mps_base_is_named(rt: HostRuntime) {
+    assert_eq!(rt; kind_of(&Act::Commit), 3, "the kind of a commit");
+    assert_eq!(rt;
         kind_of(&Act::In {
             from: a(),
             slot: None
-        }) == 1
+        }),
+        1,
+        "the kind of an input"
     );
 }
 
 // ---- protocols and types
 
-// A text is read, checked and written again.
+// mps_text: `read_protocol` and `write_protocol`, mps_global: `check`: the relay's text is read, has no fault, and is
+// written as it was.
 #[test]
-fn protocols_of_mps_text_and_mps_global(rt: HostRuntime) -> Result<(), Fail> {
+fn a_protocol_is_read_checked_and_written_by_mps_text(rt: HostRuntime) -> Result<(), Fail> {
     let alloc = rt.alloc();
     let protocol = read_protocol(alloc, RELAY)?;
     check(&protocol)?;
     let text = write_protocol(alloc, &protocol)?;
-    assert!(rt; text.as_slice() == RELAY);
+    assert_eq!(rt; text.as_slice(), RELAY, "the text of the relay");
     Ok(())
 }
 
@@ -212,14 +138,18 @@ fn are_of_size(text: TextFault, protocol: GlobalFault, local: LocalFault) -> boo
         && local == LocalFault::TooManyNodes
 }
 
-// The fault of too many nodes, in a text, a protocol and a local type.
+// mps_text: `TextFault` and `TextKind`, mps_global: `GlobalFault`, mps_local: `LocalFault`: each has the fault of too
+// many nodes.
 #[test]
-fn faults_of_mps_text_mps_global_and_mps_local(rt: HostRuntime) {
+fn each_kind_of_fault_can_be_too_many_nodes(rt: HostRuntime) {
     let text = TextFault {
         at: 0,
         kind: TextKind::TooManyNodes,
     };
-    assert!(rt; are_of_size(text, GlobalFault::TooManyNodes, LocalFault::TooManyNodes));
+    assert!(rt;
+        are_of_size(text, GlobalFault::TooManyNodes, LocalFault::TooManyNodes),
+        "too many nodes, of a text, a protocol and a local type"
+    );
 }
 
 // The type of a role, as text.
@@ -239,11 +169,15 @@ fn projected(alloc: Global, protocol: &Protocol, role: Role) -> Result<Local, Pr
     project(alloc, protocol, role)
 }
 
-// The table of `end` shows at its first node that the type has ended.
+// mps_table: `compile`, `Table::first` and `expect`: the table of `end` shows at its first node that the type has
+// ended.
 #[test]
-fn tables_of_mps_table(rt: HostRuntime) -> Result<(), Fail> {
+fn a_table_of_mps_table_shows_the_end(rt: HostRuntime) -> Result<(), Fail> {
     let table = compile(rt.alloc(), &Local::End)?;
-    assert!(rt; matches!(table.expect(table.first()), Expect::End));
+    assert!(rt;
+        matches!(table.expect(table.first()), Expect::End),
+        "the first node of `end`"
+    );
     Ok(())
 }
 
@@ -254,15 +188,21 @@ fn node_after(table: &Table, node: Node, choice: Option<usize>) -> Node
     table.after(node, choice)
 }
 
-// A send is judged where it is expected, and where the type has ended.
+// mps_monitor: `judge`: a send is allowed where it is expected, and goes on; where the type has ended it is `Ended`.
 #[test]
-fn verdicts_of_mps_monitor(rt: HostRuntime) -> Result<(), Fail> {
+fn a_send_is_judged_by_mps_monitor(rt: HostRuntime) -> Result<(), Fail> {
     let sent = Forward::Send {
         to: b(),
         value: Value::Int(5),
     };
-    assert!(rt; judge(Expect::Send(b(), Sort::Int), &sent, None) == Ok(Advance::Next));
-    assert!(rt; judge(Expect::End, &sent, None) == Err(Violation::Ended));
+    assert!(rt;
+        judge(Expect::Send(b(), Sort::Int), &sent, None) == Ok(Advance::Next),
+        "the expected send goes on"
+    );
+    assert!(rt;
+        judge(Expect::End, &sent, None) == Err(Violation::Ended),
+        "a send after the end is refused as that"
+    );
     Ok(())
 }
 
@@ -279,14 +219,23 @@ fn add(arena: &mut Arena, role: Role, act: Act, source: Option<Key>) -> Result<K
     Ok(key)
 }
 
-// One step is the first, the last, and the last of its role; its number, 1, leads to it, and nothing was sent.
+// The arena has one step, of a, with this key.
+fn has_one(rt: &impl Abort, arena: &Arena, key: Option<Key>) {
+    assert_eq!(rt; arena.first(), key, "the first step");
+    assert_eq!(rt; arena.last(), key, "the last step");
+    assert_eq!(rt; arena.last_of(a()), key, "the last step of a");
+}
+
+// mps_arena: `Arena::by_id`, `first`, `last`, `last_of` and `last_send`: the one step, a commit of a, has the number 1,
+// and is the first, the last and a's last; nothing was sent.
 #[test]
-fn steps_of_mps_arena(rt: HostRuntime) -> Result<(), Fail> {
+fn a_step_of_mps_arena_is_found_by_its_links(rt: HostRuntime) -> Result<(), Fail> {
     let mut arena = Arena::new(rt.alloc());
     add(&mut arena, a(), Act::Commit, None)?;
     let key = arena.by_id(StepId::new(1));
-    assert!(rt; key.is_some() && key == arena.first() && key == arena.last());
-    assert!(rt; key == arena.last_of(a()) && arena.last_send(a(), b()).is_none());
+    assert!(rt; key.is_some(), "the number 1 leads to a step");
+    has_one(&rt, &arena, key);
+    assert!(rt; arena.last_send(a(), b()).is_none(), "no send from a to b");
     Ok(())
 }
 
@@ -321,18 +270,22 @@ fn mark_and_remove(arena: &mut Arena, key: Key) -> bool
     marked
 }
 
-// Whether the step is marked then.
+// The step is marked.
 fn set_mark(arena: &mut Arena, key: Key)
     requires { IsSome (keyed_at key arena.old.keyed_steps) }
 {
     arena.set_mark(key, true);
 }
 
-// In new queues nothing waits. The calls that require more are in the functions below.
+// mps_queues: `Queues::new` and `front`: in new queues nothing waits. The calls that require more are in the functions
+// below.
 #[test]
-fn queues_of_mps_queues(rt: HostRuntime) {
+fn nothing_waits_in_new_queues_of_mps_queues(rt: HostRuntime) {
     let queues = Queues::new();
-    assert!(rt; queues.front(a(), b()).is_none());
+    assert!(rt;
+        queues.front(a(), b()).is_none(),
+        "no message from a to b waits"
+    );
 }
 
 // A send is put after the others of its pair.
@@ -363,15 +316,16 @@ fn drop_last(queues: &mut Queues, arena: &Arena)
     queues.drop_last(arena, a(), b());
 }
 
-// A name is bound to a key, found, and unbound.
+// mps_stores: `Stores::new`, `bind`, `get`, `entries` and `unbind`: x of a is bound to a key, found alone, and unbound.
 #[test]
-fn stores_of_mps_stores(rt: HostRuntime) -> Result<(), Fail> {
+fn a_name_is_bound_and_found_in_mps_stores(rt: HostRuntime) -> Result<(), Fail> {
     let mut arena = Arena::new(rt.alloc());
     let key = arena.reserve_one()?;
     let name = Name::read(b"x").expect(&rt, "a name");
     let mut stores = Stores::new(rt.alloc())?;
-    assert!(rt; stores.bind(a(), &name, key)?.is_none());
-    assert!(rt; stores.get(a(), &name) == Some(key) && stores.entries(a()).len() == 1);
+    assert!(rt; stores.bind(a(), &name, key)?.is_none(), "x was not bound");
+    assert_eq!(rt; stores.get(a(), &name), Some(key), "the key of x");
+    assert_eq!(rt; stores.entries(a()).len(), 1, "the count of bound names");
     stores.unbind(a(), &name, None);
     Ok(())
 }
@@ -404,42 +358,67 @@ fn sent(alloc: Global) -> Result<Session, Fail>
     Ok(session)
 }
 
-// A send is in the history and waits; its undo leaves what the type began with.
+// mps_session: `Session::issued`, `len`, `step`, `message`, `undo` and `expect`: the one send, step 1 at place 0, waits
+// for b; its undo leaves what a's type began with.
 #[test]
-fn sessions_of_mps_session(rt: HostRuntime) -> Result<(), Fail> {
+fn a_send_waits_in_a_session_of_mps_session(rt: HostRuntime) -> Result<(), Fail> {
     let mut session = sent(rt.alloc())?;
-    assert!(rt; session.issued() == 1 && session.len() == 1 && session.step(0).is_some());
-    assert!(rt; session.message(a(), b(), 0).is_some());
+    let found = (session.len(), session.issued());
+    assert_eq!(rt; found, (1, 1), "the steps and the numbers");
+    assert!(rt; session.step(0).is_some(), "the step at place 0");
+    assert!(rt;
+        session.message(a(), b(), 0).is_some(),
+        "the send to b waits"
+    );
     session.undo(a(), StepId::new(1))?;
-    assert!(rt; matches!(session.expect(a()), Expect::Send(_, Sort::Int)));
+    assert!(rt;
+        matches!(session.expect(a()), Expect::Send(_, Sort::Int)),
+        "a send is expected again"
+    );
     Ok(())
 }
 
-// A return without a mark, a rollback of a step that isn't there, and one of a step that is.
+// mps_session: `Session::back`, `would`, `rollback` and `slot`: a return without a mark, a rollback of a step that
+// isn't there, 2, and one of the step that is, 1; b received nothing, so it has no slot.
 #[test]
-fn steps_taken_back_in_mps_session(rt: HostRuntime) -> Result<(), Fail> {
+fn steps_are_taken_back_in_mps_session(rt: HostRuntime) -> Result<(), Fail> {
     let mut session = sent(rt.alloc())?;
     let name = Name::read(b"m").expect(&rt, "a name");
-    assert!(rt; matches!(session.back(a(), &name), Err(Refusal::NoMark)));
-    assert!(rt; session.would(a(), &Command::Rollback(StepId::new(2))) == Err(Refusal::NoStep));
-    assert!(rt; session.rollback(a(), StepId::new(1))?.as_slice().len() == 1);
-    assert!(rt; session.slot(b(), &name).is_none());
+    assert!(rt;
+        matches!(session.back(a(), &name), Err(Refusal::NoMark)),
+        "the return to m finds no mark"
+    );
+    assert!(rt;
+        session.would(a(), &Command::Rollback(StepId::new(2))) == Err(Refusal::NoStep),
+        "the rollback of 2 finds no step"
+    );
+    assert!(rt;
+        session.rollback(a(), StepId::new(1))?.as_slice().len() == 1,
+        "the rollback of 1 takes one step back"
+    );
+    assert!(rt;
+        session.slot(b(), &name).is_none(),
+        "the slot m of b is empty"
+    );
     Ok(())
 }
 
-// A session is the same as itself.
+// mps_session: `same`: a session is the same as itself.
 #[test]
-fn sessions_compared_by_mps_session(rt: HostRuntime) -> Result<(), Fail> {
+fn a_session_of_mps_session_is_the_same_as_itself(rt: HostRuntime) -> Result<(), Fail> {
     let session = sent(rt.alloc())?;
-    assert!(rt; same(&session, &session));
+    assert!(rt; same(&session, &session), "a session and itself");
     Ok(())
 }
 
-// No types are no session: there are 2 to 8 roles.
+// mps_session: `Session::open`: no types open no session, since there are 2 to 8 roles.
 #[test]
-fn types_refused_by_mps_session(rt: HostRuntime) {
+fn no_types_open_no_session_of_mps_session(rt: HostRuntime) {
     let none = Session::open(rt.alloc(), Vec::new(rt.alloc()));
-    assert!(rt; matches!(none, Err(OpenFault::RoleCount)));
+    assert!(rt;
+        matches!(none, Err(OpenFault::RoleCount)),
+        "no types are refused as RoleCount"
+    );
 }
 
 // Whether a protocol gives no session for the fault of one of its roles.
@@ -453,19 +432,22 @@ fn is_unmergeable(fault: ProtocolFault) -> bool {
 
 // ---- rooms and their callers
 
-// A mark is accepted, and is the one entry, which is news, with its command.
+// mps_room: `Room::open`, `apply`, `entries`, `entry`, `session`, `command`, `news` and `show`: a mark is accepted, and
+// is the one entry, at place 0, with its step and its command; the news tell that there is one entry.
 #[test]
-fn rooms_of_mps_room(rt: HostRuntime) -> Result<(), Fail> {
+fn a_mark_is_an_entry_of_a_room_of_mps_room(rt: HostRuntime) -> Result<(), Fail> {
     let alloc = rt.alloc();
     let (names, session) = relay(alloc)?;
     let mut room = Room::open(alloc, names, session);
     let name = Name::read(b"m").expect(&rt, "a name");
     let done = room.apply(a(), Command::Forward(Forward::Mark { name }));
-    assert!(rt; matches!(done, Answer::Done(_)) && room.entries() == 1);
-    assert!(rt; room.entry(0)?.is_some() && room.session().len() == 1);
-    assert!(rt; room.command(0)?.is_some());
+    assert!(rt; matches!(done, Answer::Done(_)), "the mark is accepted");
+    assert_eq!(rt; room.entries(), 1, "the count of entries");
+    assert!(rt; room.entry(0)?.is_some(), "the entry at place 0");
+    assert_eq!(rt; room.session().len(), 1, "the count of steps");
+    assert!(rt; room.command(0)?.is_some(), "the command of entry 0");
     let (length, _) = room.news(a(), 0)?;
-    assert!(rt; length == 1);
+    assert_eq!(rt; length, 1, "the count of entries in the news");
     let _shown = room.show()?;
     Ok(())
 }
@@ -483,17 +465,24 @@ fn kept_after<C: Caller>(caller: &mut C, command: Command) -> bool
     }
 }
 
-// A caller keeps the number of an accepted command, and gives commands without a number.
+// mps_room: `Solo::new`, `call_numbered`, `Caller::roles` and `call`: a caller keeps the number 1 of an accepted mark,
+// and gives commands without a number. No step has the number 9.
 #[test]
-fn callers_of_mps_room(rt: HostRuntime) -> Result<(), Fail> {
+fn a_caller_of_mps_room_keeps_its_number(rt: HostRuntime) -> Result<(), Fail> {
     let alloc = rt.alloc();
     let (names, session) = relay(alloc)?;
     let mut caller = Solo::new(Room::open(alloc, names, session), a());
     let name = Name::read(b"m").expect(&rt, "a name");
-    assert!(rt; kept_after(&mut caller, Command::Forward(Forward::Mark { name })));
-    assert!(rt; caller.roles().count() == 3);
+    assert!(rt;
+        kept_after(&mut caller, Command::Forward(Forward::Mark { name })),
+        "the number of the mark is kept"
+    );
+    assert_eq!(rt; caller.roles().count(), 3, "the count of roles");
     let answer = caller.call(Command::Undo(StepId::new(9)));
-    assert!(rt; matches!(answer, Answer::Refused(Refusal::NoStep)));
+    assert!(rt;
+        matches!(answer, Answer::Refused(Refusal::NoStep)),
+        "the undo of 9 finds no step"
+    );
     Ok(())
 }
 
@@ -537,15 +526,22 @@ fn first_answers<R: Wait>(rt: &R, cell: &mut Cell) -> bool {
     }
 }
 
-// A pass calls its cell, which gives its passes once, and the room when it is closed.
+// mps_cell: `Cell::open`, `passes` and `close`, `Pass::call` and others: a pass calls its cell, which gives its passes
+// once, and the room when it is closed.
 #[test]
-fn passes_of_mps_cell(rt: HostRuntime) -> Result<(), Fail> {
+fn a_pass_calls_its_cell_of_mps_cell(rt: HostRuntime) -> Result<(), Fail> {
     let alloc = rt.alloc();
     let (names, session) = relay(alloc)?;
     let mut cell = Cell::open(alloc, names, session)?;
-    assert!(rt; first_answers(&rt, &mut cell));
-    assert!(rt; matches!(cell.passes(), Err(PassFault::Given)));
-    assert!(rt; cell.close().is_some());
+    assert!(rt;
+        first_answers(&rt, &mut cell),
+        "the pass of a: an undo of 9, called in three ways, and no entry"
+    );
+    assert!(rt;
+        matches!(cell.passes(), Err(PassFault::Given)),
+        "the second passes: they were given"
+    );
+    assert!(rt; cell.close().is_some(), "the room is given back");
     Ok(())
 }
 
@@ -573,201 +569,4 @@ fn compare(first: &mut Pass<'_>, second: &mut Pass<'_>) -> Ordering
     requires { second.old.cell ≡ first.old.cell }
 {
     meet(first, second)
-}
-
-// ---- lines
-
-// Lines of commands, of scripts, of conversations and of joins are read, or are `Bad`.
-#[test]
-fn lines_read_by_mps_line(rt: HostRuntime) -> Result<(), Fail> {
-    let alloc = rt.alloc();
-    let (roles, _) = relay(alloc)?;
-    assert!(rt; matches!(read_command(alloc, &roles, b"undo 3"), Ok(Command::Undo(_))));
-    assert!(rt;
-        matches!(
-            read_script_line(alloc, &roles, b"a fly"),
-            Err(LineFault::Bad)
-        )
-    );
-    assert!(rt; matches!(read_numbered(alloc, &roles, b"4 show"), Err(LineFault::Bad)));
-    let (session, name) = read_join(b"join 2 a")?;
-    assert!(rt; session == 2 && name.is_spelled(b"a"));
-    Ok(())
-}
-
-// The line of a command.
-fn line_of(alloc: Global, roles: &Roles, command: &Command) -> Result<Vec<u8>, AllocError>
-    requires { NamesRolesOf roles.now command.now }
-{
-    write_command(alloc, roles, command)
-}
-
-// A command, a kept answer and a reply are written.
-#[test]
-fn lines_written_by_mps_line(rt: HostRuntime) -> Result<(), Fail> {
-    let alloc = rt.alloc();
-    let (roles, _) = relay(alloc)?;
-    let undo = line_of(alloc, &roles, &Command::Undo(StepId::new(3)))?;
-    assert!(rt; undo.as_slice() == b"undo 3".as_slice());
-    let refused = Answer::Refused(Refusal::Full);
-    let kept = write_kept(alloc, &refused)?;
-    assert!(rt; kept.as_slice() == b"refused full".as_slice());
-    let reply = write_answer(alloc, &Reply::Answer(refused))?;
-    assert!(rt; reply.as_slice() == b"refused full".as_slice());
-    Ok(())
-}
-
-// The codes of replies that no room gives, as in FORMATS; and a reply that is no refusal is read.
-#[test]
-fn codes_of_mps_line(rt: HostRuntime) -> Result<(), Fail> {
-    assert!(rt; Reply::BadLine.code() == 14 && Reply::NoSession.code() == 15);
-    assert!(rt; Reply::NoRole.code() == 16 && Reply::Taken.code() == 17);
-    assert!(rt; Reply::Number.code() == 19);
-    let joined = read_answer(rt.alloc(), b"joined 1 a")?;
-    assert!(rt;
-        matches!(
-            joined,
-            Reply::Joined {
-                session: 1,
-                name: _
-            }
-        )
-    );
-    Ok(())
-}
-
-// ---- devices and streams
-
-// Two bytes are read from std's reader, and written to its writer.
-#[test]
-fn devices_of_mps_dev(rt: HostRuntime) -> Result<(), Fail> {
-    let mut buf = [0u8; 4];
-    let mut source = OverRead::new(b"ab".as_slice());
-    assert!(rt; source.read(&mut buf) == Ok(2));
-    let mut sink = OverWrite::new(Vec::new(rt.alloc()));
-    assert!(rt; sink.write(b"ab") == Ok(2));
-    Ok(())
-}
-
-// A line comes out of the bytes that are fed. mps_wire names these types of mps_lines too.
-#[test]
-fn lines_of_mps_lines_named_by_mps_wire(rt: HostRuntime) -> Result<(), Fail> {
-    let mut lines = Lines::new(rt.alloc());
-    lines.feed(b"a\n\x80")?;
-    match lines.next_line()? {
-        Some(Line::Text(text)) => assert!(rt; text.as_slice() == b"a".as_slice()),
-        Some(Line::TooLong) => return Err("a text".into()),
-        Some(Line::NotAscii) => return Err("a text".into()),
-        None => return Err("a line".into()),
-    }
-    Ok(())
-}
-
-// A script of one line runs on a session, and makes one entry.
-#[test]
-fn scripts_of_mps_wire(rt: HostRuntime) -> Result<(), Fail> {
-    let alloc = rt.alloc();
-    let (names, session) = relay(alloc)?;
-    let mut reader = Pieces::new(
-        vec![in alloc; Vec::from_slice(alloc, b"a send b 5\n")?]?,
-        None,
-    );
-    let mut writer = Short::new(alloc, 99)?;
-    match replay_session(alloc, &mut reader, &mut writer, names, session) {
-        Ok(room) => assert!(rt; room.entries() == 1),
-        Err(_) => return Err("a room".into()),
-    }
-    Ok(())
-}
-
-// A script runs on a session of these types, and ends where its answer finds no room.
-#[test]
-fn scripts_of_types_in_mps_wire(rt: HostRuntime) -> Result<(), Fail> {
-    let alloc = rt.alloc();
-    let (names, _) = relay(alloc)?;
-    let types = vec![in alloc; Local::End, Local::End, Local::End]?;
-    let mut reader = Pieces::new(vec![in alloc; Vec::from_slice(alloc, b"a mark m")?]?, None);
-    let mut writer = Short::new(alloc, 0)?;
-    let ran = replay(alloc, &mut reader, &mut writer, names, types);
-    assert!(rt; matches!(ran, Err(ReplayFault::WriteFault)));
-    Ok(())
-}
-
-// A conversation of one numbered line runs to its end.
-#[test]
-fn conversations_of_mps_wire(rt: HostRuntime) -> Result<(), Fail> {
-    let alloc = rt.alloc();
-    let (names, session) = relay(alloc)?;
-    let mut caller = Solo::new(Room::open(alloc, names, session), a());
-    let mut reader = Pieces::new(
-        vec![in alloc; Vec::from_slice(alloc, b"1 send b 5\n")?]?,
-        None,
-    );
-    let mut writer = Short::new(alloc, 99)?;
-    let ending = converse(alloc, &mut caller, &mut reader, &mut writer);
-    assert!(rt; ending == Ending::Closed);
-    Ok(())
-}
-
-// ---- servers
-
-// Two sessions of the relay.
-fn two(alloc: Global) -> Result<Hub, Fail>
-    ensures { IfOk result (λ h. h.given ≡ false) }
-{
-    let (names, first) = relay(alloc)?;
-    let (_, second) = relay(alloc)?;
-    let sessions = vec![in alloc; first, second]?;
-    Ok(Hub::of(alloc, &names, sessions)?)
-}
-
-// A desk of two sessions gives no pass of session 3, nor of a role z.
-#[test]
-fn desks_of_mps_hub(rt: HostRuntime) -> Result<(), Fail> {
-    let alloc = rt.alloc();
-    let mut hub = two(alloc)?;
-    let name = Name::read(b"z").expect(&rt, "a name");
-    let desk = hub.desk(alloc)?;
-    assert!(rt; matches!(desk.take(&rt, 3, &name), Err(JoinFault::NoSession)));
-    assert!(rt; matches!(desk.take(&rt, 2, &name), Err(JoinFault::NoRole)));
-    Ok(())
-}
-
-// A hub of one session gives its room back when it is closed.
-#[test]
-fn hubs_of_mps_hub(rt: HostRuntime) -> Result<(), Fail> {
-    let alloc = rt.alloc();
-    let types = [Local::End, Local::End, Local::End];
-    let (names, _) = relay(alloc)?;
-    let hub = Hub::open(alloc, &names, &types, 1)?;
-    assert!(rt; hub.close(alloc)?.len() == 1);
-    Ok(())
-}
-
-// The pass goes back.
-fn give<'a, R: Wait>(rt: &R, desk: &Desk<'a>, session: u64, pass: Pass<'a>)
-    requires session { IsSession desk.now.first (length desk.now.cells) session }
-    requires pass { IsOfSession desk.now session pass }
-{
-    desk.give(rt, session, pass);
-}
-
-// A gate that all pass.
-#[derive(Drop)]
-struct Open;
-
-impl Gate for Open {
-    fn before(&self, _connection: u64, _line: u64) {}
-}
-
-// How many connections ended and were lost, of two that were accepted in one way and the other.
-fn served<R: Threads + Wait + Clock + Sync + 'static>(
-    rt: &R,
-    alloc: Global,
-    listener: &TcpListener,
-    desk: &Desk<'_>,
-) -> Result<u64, ServeFault> {
-    let Served { ended, lost } = serve(rt, alloc, listener, desk, 1)?;
-    let gated = serve_with(rt, alloc, listener, desk, 1, &Open)?;
-    Ok(u64::wrapping_add(u64::wrapping_add(ended, lost), gated.ended))
 }

@@ -24,7 +24,7 @@ pub(crate) enum Halt {
 impl From<AllocError> for Halt {
     ghost from_gives = { λ _ e. e ≡ Memory };
 
-    // A failed allocation stops the reading as lack of memory.
+    // Lets `?` turn a failed allocation into `Memory`.
     fn from(_e: AllocError) -> Halt {
         Halt::Memory
     }
@@ -33,7 +33,7 @@ impl From<AllocError> for Halt {
 impl<T: Drop> From<AllocFailed<T>> for Halt {
     ghost from_gives = { λ _ e. e ≡ Memory };
 
-    // A failed allocation stops the reading as lack of memory; what it gives back is dropped.
+    // Lets `?` turn a failed allocation into `Memory`; what the allocation gives back is dropped.
     fn from(_e: AllocFailed<T>) -> Halt {
         Halt::Memory
     }
@@ -48,7 +48,8 @@ pub(crate) struct Lexeme<'a> {
 }
 
 impl Lexeme<'_> {
-    /// Why reading stops: a fault of that kind, which begins at the token.
+    /// The fault of that kind at this token. Faults are told by the bytes left, so that no function needs the whole
+    /// text.
     pub(crate) fn fault(&self, kind: TextKind) -> Halt
         ensures { result ≡ Halt.At self.now.left kind }
     {
@@ -63,8 +64,7 @@ pub(crate) struct Cursor<'a> {
     pub(crate) nodes: usize,
 }
 
-/// Takes the next token, after which the cursor stands then. Where no token comes next it is a fault, and the cursor
-/// stays.
+/// Takes the next token and moves the cursor past it. Where no token comes next it is a fault, and the cursor stays.
 pub(crate) fn take<'a>(cursor: &mut Cursor<'a>) -> Result<Lexeme<'a>, Halt>
     ensures next { Takes result cursor.old cursor.new }
     ensures nodes { cursor.new.nodes ≡ cursor.old.nodes }
@@ -74,7 +74,8 @@ pub(crate) fn take<'a>(cursor: &mut Cursor<'a>) -> Result<Lexeme<'a>, Halt>
     Ok(next)
 }
 
-/// The next token, after blanks. The end of the text is `Unexpected`, and what begins no token is a malformed `Word`.
+/// The next token, after blanks, without moving a cursor, as for a token that may not be taken. The end of the text is
+/// `Unexpected`, and what begins no token is a malformed `Word`. It does not allocate.
 #[tactic(auto, unfolding(crate::specs::Private::Lexing::lexeme_at))]
 pub(crate) fn lexeme_at(bytes: &[u8]) -> Result<Lexeme<'_>, Halt>
     ensures { Gives plain_lexeme result (lexeme_at bytes.now) }
@@ -82,8 +83,7 @@ pub(crate) fn lexeme_at(bytes: &[u8]) -> Result<Lexeme<'_>, Halt>
     lexeme_of(unblanked(bytes))
 }
 
-// The token in front of bytes that begin with no blank. Where there are none it is `Unexpected`, and what begins no
-// token is a malformed `Word`.
+// `lexeme_at` for bytes that begin with no blank, so that a fault's place is the token's first byte.
 #[tactic(auto, unfolding(crate::specs::Private::Lexing::lexeme_of))]
 fn lexeme_of(bytes: &[u8]) -> Result<Lexeme<'_>, Halt>
     ensures { Gives plain_lexeme result (lexeme_of bytes.now) }
@@ -103,7 +103,7 @@ fn lexeme_of(bytes: &[u8]) -> Result<Lexeme<'_>, Halt>
     })
 }
 
-/// The bytes after the blanks in front.
+/// The bytes without the blanks in front: spaces, tabs, CR and LF, in any number.
 pub(crate) fn unblanked(bytes: &[u8]) -> &[u8]
     ensures { result.now ≡ unblanked bytes.now }
 {
@@ -117,14 +117,14 @@ pub(crate) fn unblanked(bytes: &[u8]) -> &[u8]
     rest
 }
 
-// Whether the byte is a blank.
+// Whether the byte separates tokens and is none: a space, a tab, CR or LF. There are no comments in protocol texts.
 fn is_blank(byte: u8) -> bool
     ensures { result ≡ is_blank byte }
 {
     byte == b' ' || byte == b'\t' || byte == b'\n' || byte == b'\r'
 }
 
-// How many bytes the token in front takes, 0 where none stands there.
+// The length in bytes of the token in front, or 0 where none stands there: `->`, one mark of punctuation, or a word.
 #[tactic(auto, unfolding(crate::specs::Private::Lexing::token_len))]
 fn token_len(bytes: &[u8]) -> usize
     ensures len { result ≡ token_len bytes.now }
@@ -139,15 +139,15 @@ fn token_len(bytes: &[u8]) -> usize
     }
 }
 
-// Whether the byte is a token by itself.
+// Whether the byte is a token by itself, whatever comes after it: one of `: ; . , { }`.
 fn is_punctuation(byte: u8) -> bool
     ensures { result ≡ is_punctuation_byte byte }
 {
     byte == b':' || byte == b';' || byte == b'.' || byte == b',' || byte == b'{' || byte == b'}'
 }
 
-// How many bytes the word in front takes, 0 where no well-formed word stands there. What goes on too long is no word
-// either.
+// The length in bytes of the word in front, or 0 where none is well-formed. The longest run counts, so a word that goes
+// on too long, or mixes both cases, is no word.
 #[tactic(auto, unfolding(crate::specs::Private::Lexing::word_len))]
 fn word_len(bytes: &[u8]) -> usize
     ensures len { result ≡ word_len bytes.now }
@@ -157,7 +157,7 @@ fn word_len(bytes: &[u8]) -> usize
     if is_word(&bytes[..len]) { len } else { 0 }
 }
 
-// How many bytes in front may stand in a word, up to the first that may not.
+// How many bytes in front may stand in words: letters, digits and `_`, up to the first other byte.
 fn run_len(bytes: &[u8]) -> usize
     ensures len { result ≡ run_len bytes.now }
     ensures within { result ≤ length bytes.now }
@@ -172,28 +172,29 @@ fn run_len(bytes: &[u8]) -> usize
     len
 }
 
-// Whether a word may contain the byte.
+// Whether the byte is a letter, a digit or `_`: what may stand somewhere in a word.
 fn is_word_byte(byte: u8) -> bool
     ensures { result ≡ is_word_byte byte }
 {
     byte.is_ascii_lowercase() || byte.is_ascii_digit() || byte == b'_' || byte.is_ascii_uppercase()
 }
 
-// Whether the bytes are a well-formed word: at most 32, and of the form of a name or of a variable.
+// Whether the bytes are a well-formed word: at most 32, in the form of a name or of a variable. Reserved words are
+// words too; the parser tells them apart.
 fn is_word(bytes: &[u8]) -> bool
     ensures { result ≡ is_word bytes.now }
 {
     bytes.len() <= MAX_NAME && (is_small_word(bytes) || is_capital_word(bytes))
 }
 
-// Whether the bytes are small letters, digits and `_`, the first a letter: names and reserved words look so.
+// Whether the bytes are small letters, digits and `_`, the first a letter: the form of names and reserved words.
 fn is_small_word(bytes: &[u8]) -> bool
     ensures { result ≡ is_small_word bytes.now }
 {
     begins_small(bytes) && are_name_bytes(bytes)
 }
 
-// Whether a small letter stands in front of the bytes.
+// Whether the first byte is a small letter; false for no bytes. Apart, as the definition of a small word has it.
 fn begins_small(bytes: &[u8]) -> bool
     ensures { result ≡ first_is is_lower bytes.now }
 {
@@ -203,21 +204,21 @@ fn begins_small(bytes: &[u8]) -> bool
     }
 }
 
-// Whether the bytes are small letters, digits and `_`.
+// Whether each byte is a small letter, a digit or `_`; true for no bytes.
 fn are_name_bytes(bytes: &[u8]) -> bool
     ensures { result ≡ list_all is_name_byte bytes.now }
 {
     bytes.iter().all(|byte| byte.is_ascii_lowercase() || byte.is_ascii_digit() || *byte == b'_')
 }
 
-// Whether the bytes are capital letters, digits and `_`, the first a letter: variables look so.
+// Whether the bytes are capital letters, digits and `_`, the first a letter: the form of variables.
 fn is_capital_word(bytes: &[u8]) -> bool
     ensures { result ≡ is_capital_word bytes.now }
 {
     begins_capital(bytes) && are_variable_bytes(bytes)
 }
 
-// Whether a capital letter stands in front of the bytes.
+// Whether the first byte is a capital letter; false for no bytes. Apart, as the definition of a capital word has it.
 fn begins_capital(bytes: &[u8]) -> bool
     ensures { result ≡ first_is is_upper bytes.now }
 {
@@ -227,14 +228,15 @@ fn begins_capital(bytes: &[u8]) -> bool
     }
 }
 
-// Whether the bytes are capital letters, digits and `_`.
+// Whether each byte is a capital letter, a digit or `_`; true for no bytes.
 fn are_variable_bytes(bytes: &[u8]) -> bool
     ensures { result ≡ list_all is_variable_byte bytes.now }
 {
     bytes.iter().all(|byte| byte.is_ascii_uppercase() || byte.is_ascii_digit() || *byte == b'_')
 }
 
-/// The name that the bytes spell, if they spell one; a reserved word is none.
+/// The name that the bytes spell, or `None`, as for a reserved word: `Name::read` with a contract in terms of tokens,
+/// by which the proofs of texts go.
 pub(crate) fn name_of(bytes: &[u8]) -> Option<Name>
     ensures { MatchOption result (is_name bytes.now ≡ false)
         (λ name. (is_name bytes.now ≡ true) × (name ≡ bytes.now)) }
@@ -242,7 +244,8 @@ pub(crate) fn name_of(bytes: &[u8]) -> Option<Name>
     Name::read(bytes)
 }
 
-/// The variable that the bytes spell, if they spell one.
+/// The variable that the bytes spell, or `None`: `VarName::read` with a contract in terms of tokens, by which the
+/// proofs of texts go.
 pub(crate) fn variable_of(bytes: &[u8]) -> Option<VarName>
     ensures { MatchOption result (is_variable bytes.now ≡ false)
         (λ name. (is_variable bytes.now ≡ true) × (name ≡ bytes.now)) }

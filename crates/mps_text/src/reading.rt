@@ -29,11 +29,12 @@ use mps_global::faults::{MAX_DEPTH, MAX_NODES};
 use mps_global::{Branches, Global, Protocol};
 use std::alloc;
 
-/// How many bytes a protocol text may have.
+/// How many bytes a protocol text may have; a longer one is `TooLong`, and isn't read.
 pub const MAX_TEXT_BYTES: usize = 65536;
 
-/// Reads a protocol that takes all of the text: `roles`, the 2 to 8 roles, `;`, and what they say to each other.
-/// Whether the roles differ and are known is left to `mps_global::check`. Lack of memory is reported at byte 0.
+/// Reads all of the text as a protocol: `roles`, 2 to 8 names, `;`, and a global type, by recursive descent that the
+/// limits on nodes and depth keep short. The first fault is returned with its byte, from 0; `Memory` with byte 0.
+/// Whether roles differ and are known is left to `mps_global::check`.
 pub fn read_protocol(alloc: alloc::Global, text: &[u8]) -> Result<Protocol, TextFault>
     // What is read is spelled so.
     ensures read { IfOk result (λ p. IsWithinLimits text.now (plain p.body)
@@ -64,13 +65,13 @@ pub fn read_protocol(alloc: alloc::Global, text: &[u8]) -> Result<Protocol, Text
     }
 }
 
-/// A text spells at most one protocol.
+/// A law: a text spells at most one protocol, so the grammar is unambiguous.
 pub fn one_protocol()
     ensures { (text : List ℕ) (r s : List (List ℕ)) (t u : GlobalType)
         → SpellsText text r t → SpellsText text s u → (r ≡ s) × (t ≡ u) }
 {}
 
-/// A text has one first fault at most, and none where it spells a protocol within the limits.
+/// A law: a text has at most one first fault, and none where it spells a protocol within the limits.
 pub fn one_fault()
     ensures one { (text : List ℕ) (a b : ℕ) (k l : TextKind) → IsFirstFault text a k
         → IsFirstFault text b l → k ≢ Memory → l ≢ Memory → (a ≡ b) × (k ≡ l) }
@@ -79,21 +80,22 @@ pub fn one_fault()
         → IsFirstFault text at kind → kind ≡ Memory }
 {}
 
-/// Each text spells a protocol within the limits, or has a first fault: `TooLong` where it has more
-/// than 65,536 bytes, and otherwise one that it shows, never out of memory.
+/// A law: each text spells a protocol within the limits, or has a first fault: `TooLong` over 65,536 bytes, and
+/// otherwise one that it shows, never out of memory.
 pub fn protocol_or_fault()
     ensures { (text : List ℕ) → HasProtocol text ⊎ HasFault text }
 {}
 
-/// Of a protocol's tokens exactly the first ones of its nodes begin a node, in the order of
-/// `places`, each with the depth of its node.
+/// A law: of a protocol's tokens exactly the first ones of its nodes begin a node, in the order of `places`, each with
+/// the depth of its node. So the limits on nodes and depth can be checked while reading.
 pub fn first_tokens()
     ensures { (roles : List (List ℕ)) (tree : GlobalType)
         → filter_map begun_by (protocol_parts roles tree)
         ≡ map (λ p. (first_token_of p.node, level p)) (places [] tree) }
 {}
 
-// Reads the protocol that takes all of the text, of at most 256 nodes.
+// `read_protocol` after the test of the length: reads the heading and the type, of at most 256 nodes, and sees that
+// nothing follows.
 fn protocol_of(alloc: alloc::Global, text: &[u8]) -> Result<Protocol, Halt>
     ensures runs { ReadsAll text.now result }
     ensures tokens { IfOk result (λ p. tokens_in (lexed text.now)
@@ -112,7 +114,8 @@ fn protocol_of(alloc: alloc::Global, text: &[u8]) -> Result<Protocol, Halt>
     Ok(Protocol { roles, body })
 }
 
-// Reads `roles`, the 2 to 8 roles, and `;`.
+// Reads `roles`, the 2 to 8 roles, and `;`, and returns the names, which may be equal. After a fault the cursor may
+// have moved; reading is given up then.
 fn heading_at(alloc: alloc::Global, cursor: &mut Cursor<'_>) -> Result<Vec<Name>, Halt>
     ensures runs { Reads (Token (codes "roles") ∷ AName ∷ AName ∷ Roles 6 ∷ []) (λ _. [])
         cursor.old cursor.new result }
@@ -132,7 +135,8 @@ fn heading_at(alloc: alloc::Global, cursor: &mut Cursor<'_>) -> Result<Vec<Name>
     Ok(roles)
 }
 
-// Reads more roles, at most as many as there is room for, and `;`. After an error some of them may stand in `roles`.
+// Reads more names, at most `room`, and `;`, and appends the names to `roles`. After an error some of them may be
+// appended; reading is given up then.
 fn roles_at(room: usize, roles: &mut Vec<Name>, cursor: &mut Cursor<'_>) -> Result<(), Halt>
     ensures runs { Reads (Roles room ∷ []) (λ _. []) cursor.old cursor.new result }
     ensures tokens { OnOk result (roles.old.items ++ tokens_from cursor.old
@@ -159,7 +163,8 @@ fn roles_at(room: usize, roles: &mut Vec<Name>, cursor: &mut Cursor<'_>) -> Resu
     }
 }
 
-// Reads a global type whose root has that depth.
+// Reads a global type whose root has that depth, from 1. `node_at` refuses more than 64 levels or 256 nodes, so the
+// recursion ends. After a fault the trees made so far are dropped.
 #[cycle(reading)]
 fn global_at(alloc: alloc::Global, depth: usize, cursor: &mut Cursor<'_>) -> Result<Global, Halt>
     ensures runs { Reads (Node depth ∷ []) (λ _. []) cursor.old cursor.new result }
@@ -197,7 +202,8 @@ fn global_at(alloc: alloc::Global, depth: usize, cursor: &mut Cursor<'_>) -> Res
     }
 }
 
-// Reads branches whose types have roots of that depth, one at least, and `}`.
+// Reads branches whose types have roots of that depth, one at least, and `}`. Calls are nested once for each branch,
+// and each takes a node, of which there are at most 256.
 #[cycle(reading)]
 fn branches_at(
     alloc: alloc::Global,
@@ -231,8 +237,8 @@ pub(crate) enum First {
     Var(VarName),
 }
 
-// Reads the first token of a global type whose root has that depth, and counts the node. `Unexpected` comes before
-// `TooManyNodes`, and that before `TooDeep`.
+// Reads the first token of a global type whose root has that depth, and counts the node against the limit. `Unexpected`
+// comes before `TooManyNodes`, and that before `TooDeep`.
 #[tactic(auto, using(crate::proofs::Tokens::first_is))]
 fn node_at(depth: usize, cursor: &mut Cursor<'_>) -> Result<First, Halt>
     ensures runs { Reads (Node depth ∷ []) (behind_first depth) cursor.old cursor.new result }
@@ -254,7 +260,8 @@ fn node_at(depth: usize, cursor: &mut Cursor<'_>) -> Result<First, Halt>
     }
 }
 
-// How a global type begins whose first token this is; `None` where none begins so.
+// How a global type with this first token goes on: `end`, `rec`, a sender or a variable; `None` where none begins with
+// it.
 #[tactic(auto, unfolding(crate::specs::Private::Reading::first_of))]
 fn first_of(token: &[u8]) -> Option<First>
     ensures { result ≡ first_of token.now }
@@ -271,7 +278,8 @@ fn first_of(token: &[u8]) -> Option<First>
     }
 }
 
-// Reads what stands after the sender: `->`, the receiver, and a sort and `.`, or `{`. For `{` there is no sort.
+// Reads what stands after the sender: `->`, the receiver, and `: sort .` of a message, or `{` of a choice, for which
+// the sort is `None`.
 fn exchange_at(cursor: &mut Cursor<'_>) -> Result<(Name, Option<Sort>), Halt>
     ensures runs { (depth : ℕ) → Reads (Token (codes "->") ∷ AName ∷ Exchange depth ∷ [])
         (λ x. behind_exchange depth x.1) cursor.old cursor.new result }
@@ -286,7 +294,8 @@ fn exchange_at(cursor: &mut Cursor<'_>) -> Result<(Name, Option<Sort>), Halt>
     Ok((receiver, sort))
 }
 
-// Reads what stands after the receiver: `:`, a sort and `.`, or `{`. For `{` there is no sort.
+// Reads what stands after the receiver: `: sort .` of a message, or `{` of a choice, for which it is `None`; else
+// `Unexpected`.
 fn payload_at(cursor: &mut Cursor<'_>) -> Result<Option<Sort>, Halt>
     ensures runs { (depth : ℕ) → Reads (Exchange depth ∷ []) (behind_exchange depth)
         cursor.old cursor.new result }
@@ -306,7 +315,7 @@ fn payload_at(cursor: &mut Cursor<'_>) -> Result<Option<Sort>, Halt>
     }
 }
 
-// Reads what stands after a branch, `,` or `}`, and says whether another branch comes.
+// Reads `,` or `}` after a branch, and returns whether another branch comes; any other token is `Unexpected`.
 #[tactic(auto, using(crate::proofs::Tokens::separator_is))]
 fn another_at(cursor: &mut Cursor<'_>) -> Result<bool, Halt>
     ensures runs { (depth : ℕ) → Reads (Others depth ∷ []) (behind_branch depth)
@@ -322,7 +331,8 @@ fn another_at(cursor: &mut Cursor<'_>) -> Result<bool, Halt>
     }
 }
 
-// Whether the token is the first of two tokens or the second; `None` where it is neither.
+// Whether the token is `this` or `that`; `None` where it is neither. For the two places of the grammar with two ways
+// on.
 #[tactic(auto, unfolding(crate::specs::Private::Reading::which))]
 fn which(token: &[u8], this: &[u8], that: &[u8]) -> Option<bool>
     ensures { result ≡ which this.now that.now token.now }
@@ -336,7 +346,7 @@ fn which(token: &[u8], this: &[u8], that: &[u8]) -> Option<bool>
     }
 }
 
-// Reads the next token, which has to be a sort.
+// Reads the next token, which has to be the word of a sort; another is `Unexpected`, at its first byte.
 #[tactic(auto, using(crate::proofs::Tokens::sort_is))]
 fn sort_at(cursor: &mut Cursor<'_>) -> Result<Sort, Halt>
     ensures runs { Reads (ASort ∷ []) (λ _. []) cursor.old cursor.new result }
@@ -351,7 +361,7 @@ fn sort_at(cursor: &mut Cursor<'_>) -> Result<Sort, Halt>
     }
 }
 
-// The sort whose word the token is, if it is one.
+// The sort whose word the token is, or `None`: the inverse of `Sort::word`.
 #[tactic(auto, unfolding(crate::specs::Private::Reading::sort_of))]
 fn sort_of(token: &[u8]) -> Option<Sort>
     ensures { result ≡ sort_of token.now }
@@ -364,7 +374,7 @@ fn sort_of(token: &[u8]) -> Option<Sort>
     }
 }
 
-// Reads the next token, which has to be a name.
+// Reads the next token, which has to be a name; another, as a reserved word, is `Unexpected`, at its first byte.
 fn name_at(cursor: &mut Cursor<'_>) -> Result<Name, Halt>
     ensures runs { Reads (AName ∷ []) (λ _. []) cursor.old cursor.new result }
     ensures tokens { IfOk result (λ name. tokens_from cursor.old ≡ name ∷ tokens_from cursor.new) }
@@ -378,7 +388,7 @@ fn name_at(cursor: &mut Cursor<'_>) -> Result<Name, Halt>
     }
 }
 
-// Reads the next token, which has to be a variable.
+// Reads the next token, which has to be a variable; another is `Unexpected`, at its first byte.
 fn variable_at(cursor: &mut Cursor<'_>) -> Result<VarName, Halt>
     ensures runs { Reads (AVariable ∷ []) (λ _. []) cursor.old cursor.new result }
     ensures tokens { IfOk result (λ name. tokens_from cursor.old ≡ name ∷ tokens_from cursor.new) }
@@ -392,7 +402,7 @@ fn variable_at(cursor: &mut Cursor<'_>) -> Result<VarName, Halt>
     }
 }
 
-// Reads the next token, which has to be this one.
+// Reads the next token, which has to be this one; another is `Unexpected`, at its first byte.
 fn expect(cursor: &mut Cursor<'_>, token: &[u8]) -> Result<(), Halt>
     ensures runs { Reads (Token token.now ∷ []) (λ _. []) cursor.old cursor.new result }
     ensures tokens { OnOk result (tokens_from cursor.old ≡ token.now ∷ tokens_from cursor.new) }
@@ -406,7 +416,8 @@ fn expect(cursor: &mut Cursor<'_>, token: &[u8]) -> Result<(), Halt>
     }
 }
 
-// Sees that nothing but blanks is left after a whole protocol. A token that is left is `Trailing`.
+// Sees that nothing but blanks is left after the protocol: a token is `Trailing`, and what begins no token a malformed
+// `Word`.
 fn ended(cursor: &Cursor<'_>) -> Result<(), Halt>
     ensures runs { Ends cursor.now result }
     ensures tokens { OnOk result (tokens_from cursor.now ≡ []) }

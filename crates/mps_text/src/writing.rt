@@ -16,7 +16,8 @@ use mps_base::{Name, push_token};
 use mps_global::{Branches, Global, Protocol};
 use std::alloc::{self, AllocError};
 
-/// Writes a protocol, which may have faults, as its tokens with one space between two, into a buffer of its own.
+/// The protocol's text in a buffer of its own: its tokens with one space between two. Any protocol is written, also one
+/// with faults or of any size. It fails only when out of memory.
 pub fn write_protocol(alloc: alloc::Global, protocol: &Protocol) -> Result<Vec<u8>, AllocError>
     ensures text { IfOk result (λ text. text.items
         ≡ protocol_text protocol.now.roles.items (plain protocol.now.body)) }
@@ -33,16 +34,15 @@ pub fn write_protocol(alloc: alloc::Global, protocol: &Protocol) -> Result<Vec<u
     Ok(out)
 }
 
-/// A written protocol is read back: where it has 2 to 8 roles, its names are names, each choice has
-/// a branch, and it and its text are within the limits, its text spells this protocol and no other,
-/// so that `read_protocol` gives it (`only`).
+/// A law: a written protocol is read back. Where it has 2 to 8 roles, each choice has a branch, and it and its text are
+/// within the limits, its text spells this protocol and no other, so that `read_protocol` gives it (`only`).
 pub fn written_reads()
     ensures { (roles : List (List ℕ)) (tree : GlobalType) → AllByRecursion IsName roles
         → HasRoleCount roles → IsSpellable tree → IsWithinLimits (protocol_text roles tree) tree
         → SpellsOnly (protocol_text roles tree) roles tree }
 {}
 
-// Writes the names at the end of `out`, with one space between two tokens. After an error some of them may stand there.
+// Appends the names, a space before each. When out of memory some of them may stand in `out`; the caller drops it.
 fn write_names(names: &[Name], out: &mut Vec<u8>) -> Result<(), AllocError>
     ensures text { OnOk result (out.new.items ≡ with_tokens out.old.items names.now) }
     ensures named { OnOk result (AllByRecursion IsName names.now) }
@@ -61,8 +61,8 @@ enum Todo<'a> {
     Others(&'a Branches),
 }
 
-// Writes a global type at the end of `out`, in a loop, so that no tree runs the stack out, however deep it is. After an
-// error a part of it may stand there.
+// Appends a global type, in a loop with a stack on the heap, since recursion would overflow on a deep tree. When out of
+// memory a part may stand in `out`; the caller drops it.
 #[tactic(auto, using(crate::proofs::Written::left_more, crate::proofs::Written::weight_more))]
 fn write_tree(alloc: alloc::Global, tree: &Global, out: &mut Vec<u8>) -> Result<(), AllocError>
     ensures text { OnOk result
@@ -77,7 +77,8 @@ fn write_tree(alloc: alloc::Global, tree: &Global, out: &mut Vec<u8>) -> Result<
     Ok(())
 }
 
-// Writes the front of what is next, up to the types and branches in it, and puts these on the stack of what waits.
+// Pops one piece of work: appends its tokens up to the next type or branches in it, which are pushed. When out of
+// memory a part may stand in `out`; the caller drops it.
 fn write_next<'a>(
     next: Todo<'a>,
     waiting: &mut Vec<Todo<'a>>,
@@ -97,7 +98,8 @@ fn write_next<'a>(
     }
 }
 
-// Writes the front of a node, up to the type or the branches in it, which are put on the stack of what waits.
+// Appends a node's own tokens, and pushes the type or the branches after them. When out of memory a part may stand in
+// `out`; the caller drops it.
 #[tactic(auto, using(crate::proofs::Written::left_more, crate::proofs::Written::weight_more))]
 fn write_node<'a>(
     node: &'a Global,
@@ -145,7 +147,8 @@ fn write_node<'a>(
     }
 }
 
-// Writes the front of the first branch, up to its type, which waits, as do the others; or `}` where there is no branch.
+// Appends the first branch's label and `:`, and pushes the other branches and, above them, its type; without a branch
+// appends `}`. When out of memory a part may stand in `out`; the caller drops it.
 #[tactic(auto, using(crate::proofs::Written::left_more, crate::proofs::Written::weight_more, crate::proofs::Written::branches_more))]
 fn write_branches<'a>(
     branches: &'a Branches,
@@ -175,7 +178,8 @@ fn write_branches<'a>(
     }
 }
 
-// Writes what comes after a branch: `,` and the front of the next one, up to its type, or `}` where there is none.
+// Appends what comes after a branch: `,` and the next one as `write_branches` does, or `}` where there is none. When
+// out of memory a part may stand in `out`; the caller drops it.
 fn write_others<'a>(
     branches: &'a Branches,
     waiting: &mut Vec<Todo<'a>>,
@@ -195,7 +199,7 @@ fn write_others<'a>(
     write_branches(branches, waiting, out)
 }
 
-// Writes the sender, `->` and the receiver. After an error some of these may stand in `out`.
+// Appends the sender, `->` and the receiver. When out of memory some of these may stand in `out`; the caller drops it.
 fn write_pair(sender: &Name, receiver: &Name, out: &mut Vec<u8>) -> Result<(), AllocError>
     ensures text { OnOk result (out.new.items
         ≡ with_tokens out.old.items (sender.now ∷ codes "->" ∷ receiver.now ∷ [])) }

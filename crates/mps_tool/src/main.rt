@@ -5,6 +5,7 @@
 use mps_program::program;
 use std::process::ExitCode;
 
+// Runs the program, and ends with its status. All is in `mps_program`, so that tests can run it as a library.
 fn main(rt: HostRuntime) -> ExitCode {
     program(&rt)
 }

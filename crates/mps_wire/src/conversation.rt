@@ -55,7 +55,7 @@ pub enum Broken {
 impl From<AllocError> for Broken {
     ghost from_gives = { λ _ e. e ≡ OutOfMemory };
 
-    // A failed allocation is `Memory`.
+    // Lets `?` turn a failed allocation into `Memory`.
     fn from(_e: AllocError) -> Broken {
         Broken::Memory
     }
@@ -64,6 +64,7 @@ impl From<AllocError> for Broken {
 impl<T: Drop> From<AllocFailed<T>> for Broken {
     ghost from_gives = { λ _ e. e ≡ OutOfMemory };
 
+    // Lets `?` turn a failed allocation into `Memory`; what the allocation gives back is dropped.
     fn from(_e: AllocFailed<T>) -> Broken {
         Broken::Memory
     }
@@ -80,8 +81,9 @@ struct Conversation {
 }
 
 impl Conversation {
-    // Writes the reply to a line, if the caller says that it may be told. Its text is made first, so nothing is written
-    // where memory runs out.
+    // Writes the reply to a line, with an LF, unless the caller says that it may not be told: then `Untold`, and
+    // nothing is written. The text is made first, so nothing is written when out of memory either; after `Write` a
+    // front of it may be.
     fn tell<C: Caller, W: Sink>(
         &mut self,
         caller: &C,
@@ -113,8 +115,9 @@ impl Conversation {
         }
     }
 
-    // Takes the next bytes, and answers each line that they end before it looks at the next one. A rest that no LF ends
-    // is kept.
+    // Takes bytes that were read, and runs and answers each line that they end before it looks at the next one. A rest
+    // without an LF is kept, up to 513 bytes. After an error the lines before were answered; the one at hand may have
+    // been run.
     fn feed<C: Caller, W: Sink>(
         &mut self,
         caller: &mut C,
@@ -152,7 +155,8 @@ impl Conversation {
     }
 }
 
-// Reads once, and answers the lines that are whole then. Says how the conversation ended, if it did.
+// One round of `converse`: reads once, and answers the lines that are whole then. Returned is how the conversation
+// ended, or `None` where it goes on.
 fn read_and_answer<C: Caller, R: Source, W: Sink>(
     caller: &mut C,
     reader: &mut R,
@@ -188,14 +192,14 @@ fn read_and_answer<C: Caller, R: Source, W: Sink>(
     }
 }
 
-/// Runs each line of the reader as a command of the caller, and writes its answer before it looks at the next line.
+/// Runs each line of the reader as a command of the caller, and writes its answer before it looks at the next one. A read
+/// asks for `CONVERSATION_BLOCK` bytes, and there are at most `MAX_READS` reads.
 ///
-/// A line may begin with a number and a space (`read_numbered`). A client that lost an answer sends the same line
-/// again: the command isn't run a second time, and its answer is written again. At the end a rest that no LF ends isn't
-/// run. The reader is asked for `CONVERSATION_BLOCK` bytes at a time, `MAX_READS` times at most. After `Closed`,
-/// `ReadFault` or `Turns` each whole line that was read is answered; after `WriteFault` or `Memory` the first of them
-/// are, and the answer of the last of these may break off, or not be written at all. After `Untold` the answer of the
-/// last isn't written, since the caller says that it may not be told.
+/// A line may begin with a number (`read_numbered`). A client that lost the answer sends the same line again: it isn't
+/// run a second time, and its answer is written again. At the end a rest without an LF isn't run.
+///
+/// After `Closed`, `ReadFault` or `Turns` each whole line that was read is answered; after `WriteFault` or `Memory` only
+/// the first of them, and the last answer may be cut or missing; after `Untold` the last one's answer isn't written.
 pub fn converse<C: Caller, R: Source, W: Sink>(
     alloc: Global,
     caller: &mut C,

@@ -18,9 +18,8 @@ ghost use Rattle.mps_wire.specs.Script.{AnswersLine};
 use mps_line::laws::one_reply_line;
 use mps_room::{Caller, Solo};
 
-/// Where the opening types are those of one protocol without faults, no line that answers a script
-/// is `refused mismatch`: where it is answered to its end, where no more of it is read, or where what
-/// was written breaks off, before the end or at it.
+/// A law: where the opening types are those of one protocol without faults, no line that answers a script is `refused
+/// mismatch`, whether the script is answered to its end, read no further, or what was written breaks off.
 pub fn no_script_meets_a_mismatch()
     ensures whole { (names : List (List ℕ)) (types : List LocalType)
         (bytes out rest : List ℕ) (lines : List (List ℕ)) (after : List Entry)
@@ -49,8 +48,8 @@ pub fn no_script_meets_a_mismatch()
     one_reply_line();
 }
 
-/// The accepted commands of a conversation are, in order, the entries that its caller made, where its lines are
-/// answered to their end, and where the last answer breaks off.
+/// A law: the accepted commands of a conversation are, in order, the entries that its caller made, whether its lines
+/// are answered to their end or the last answer breaks off.
 pub fn a_conversation_makes_its_commands<C: Caller>()
     ensures whole { (lines : List (List ℕ)) (before : C) (out : List ℕ) (after : C)
         (a : AnswersLines (ConversesLine C.Caller) lines before out after)
@@ -60,8 +59,8 @@ pub fn a_conversation_makes_its_commands<C: Caller>()
         → C.made after ≡ C.made before ++ accepted_broken_off C.Caller lines before out after a }
 {}
 
-/// Where no call of a caller is answered `Mismatch` in sessions of one protocol, no line that answers a conversation
-/// with this caller is `refused mismatch` in such a session.
+/// A law: where no call of a caller is refused with `Mismatch` in sessions of one protocol, no line that answers a
+/// conversation with this caller is `refused mismatch` there.
 pub fn no_conversation_meets_a_mismatch<C: Caller>()
     ensures whole { (types : C → List LocalType) → MeetsNoMismatch C.Caller types
         → (asked : List (List ℕ)) (before : C) (out : List ℕ) (after : C) (lines : List (List ℕ)) (rest : List ℕ)
@@ -77,13 +76,14 @@ pub fn no_conversation_meets_a_mismatch<C: Caller>()
     one_reply_line();
 }
 
-/// No call of a room's caller is answered `Mismatch`, where the opening types are those of one protocol without faults.
+/// A law: a room's caller meets the premise of `no_conversation_meets_a_mismatch`: none of its calls is refused with
+/// `Mismatch` in a session of one protocol.
 pub fn a_room_meets_no_mismatch()
     ensures { MeetsNoMismatch ⟦<Solo as Caller>⟧ (λ s. s.room.types) }
 {}
 
-/// Each entry of a journal has a line: where each peer that an opening type names is another of the roles, an accepted
-/// command names one of them.
+/// A law: each entry of a journal can be written as a line, where each peer that an opening type names is another of
+/// the roles: an accepted command names one of them.
 pub fn each_entry_can_be_written()
     ensures { (names : List (List ℕ)) (types : List LocalType) (j : List Entry) (k : ℕ) (entry : Entry)
         → HavePeers types → length names ≡ length types → IsLegal names types j → slice_get j k ≡ Some entry

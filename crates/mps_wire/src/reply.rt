@@ -24,7 +24,8 @@ pub enum Outcome {
     Kept,
 }
 
-// Gives the caller a command that asks for a change, with its number, and says what is to be replied.
+// Gives the caller a command with its number, and returns the outcome. An accepted answer is not copied: `Kept` says
+// that the caller has it. Not inlined, so that lines without a number keep no space for it.
 #[inline(never)]
 fn take_numbered<C: Caller>(caller: &mut C, number: u64, command: Command) -> Outcome
     requires { IsSome (change_of command) }
@@ -38,8 +39,9 @@ fn take_numbered<C: Caller>(caller: &mut C, number: u64, command: Command) -> Ou
     }
 }
 
-/// Makes the call of a line, if it has one, and says what is to be replied. A line over 512 bytes has none, nor has one
-/// that is unreadable, or for whose text there is no memory.
+/// Runs a line as a command of the caller, if it spells one, and returns what is to be replied. A line over 512 bytes
+/// or unreadable is `BadLine`, and one for whose text there is no memory is refused with `Memory`: neither calls the
+/// caller. It can't fail.
 pub fn take_line<C: Caller>(alloc: Global, caller: &mut C, line: &[u8]) -> Outcome
     ensures { RepliesTo C.Caller line.now caller.old (reply_of result (C.kept caller.new)) caller.new }
 {
@@ -56,8 +58,8 @@ pub fn take_line<C: Caller>(alloc: Global, caller: &mut C, line: &[u8]) -> Outco
     }
 }
 
-/// Writes the reply that the outcome stands for at the end of `out`, without a line break. Where memory runs out, a
-/// part of it may stand there.
+/// Appends the reply that the outcome stands for, without a line break; a kept answer is looked up at the caller. When
+/// out of memory a part may stand in `out`; the outcome is still there, so it can be asked for again.
 pub fn write_outcome<C: Caller>(
     caller: &C,
     outcome: &Outcome,

@@ -50,7 +50,7 @@ pub enum ReplayFault {
 impl From<AllocError> for ReplayFault {
     ghost from_gives = { λ _ e. e ≡ OutOfMemory };
 
-    // A failed allocation is `Memory`.
+    // Lets `?` turn a failed allocation into `Memory`.
     fn from(_e: AllocError) -> ReplayFault {
         ReplayFault::Memory
     }
@@ -59,7 +59,7 @@ impl From<AllocError> for ReplayFault {
 impl From<OpenFault> for ReplayFault {
     ghost from_gives = { λ fault e. e ≡ of_opening fault };
 
-    // Why no session was opened; lack of memory is `Memory`, as at any other moment.
+    // Lets `?` turn a fault of opening into this one; out of memory is `Memory`, as at any other moment.
     fn from(fault: OpenFault) -> ReplayFault {
         match fault {
             OpenFault::Memory => ReplayFault::Memory,
@@ -68,7 +68,8 @@ impl From<OpenFault> for ReplayFault {
     }
 }
 
-// Writes, after the other answers, which of the role's steps others took back. After an error a part may stand there.
+// Appends the answer to `news`. When out of memory a part may stand in `answers`; the run is given up then. Not
+// inlined, so that other lines keep no space for it.
 #[inline(never)]
 fn reply_with_news(
     room: &Room,
@@ -82,7 +83,8 @@ fn reply_with_news(
     append_answer(&room.answer_news(role, known), answers)
 }
 
-// Writes, after the other answers, how the session stands. After an error a part may stand there.
+// Appends the answer to `show`. When out of memory a part may stand in `answers`; the run is given up then. Not
+// inlined, so that other lines keep no space for it.
 #[inline(never)]
 fn reply_with_show(room: &Room, answers: &mut Vec<u8>) -> Result<(), AllocError>
     ensures { (role : ℕ) → OnOk result (IsReplied room.now.names room.now.types room.now.journal role Show
@@ -91,9 +93,8 @@ fn reply_with_show(room: &Room, answers: &mut Vec<u8>) -> Result<(), AllocError>
     append_answer(&room.answer_show(), answers)
 }
 
-// Gives the role's command to the room, and writes the answer after the others. Questions are answered apart, so that
-// no other line makes space for their answers. After an error the command may have been run, with a part of its answer
-// there or none.
+// Gives the role's command to the room, and appends the answer. When out of memory the command may have been run, with
+// a part of its answer in `answers`; the run is given up then.
 fn reply_to_command(
     room: &mut Room,
     role: Role,
@@ -113,8 +114,8 @@ fn reply_to_command(
     }
 }
 
-// Gives the command of a line to the room, if it has one, and writes the reply after the others. A line over 512 bytes
-// is unreadable. After an error the command may have been run, with a part of its answer there or none.
+// Runs a line of the script, if it spells a command, and appends the reply; a line over 512 bytes is unreadable. When
+// out of memory the command may have been run, with a part of its reply in `answers`; the run is given up then.
 fn reply_to_line(
     alloc: Global,
     room: &mut Room,
@@ -142,7 +143,8 @@ fn reply_to_line(
     }
 }
 
-// Answers a line: gives its command to the room, if it has one, and writes the reply and an LF after the other answers.
+// `reply_to_line`, and an LF after the reply. Apart, since a line that came whole and one that came in pieces both go
+// here.
 #[inline(always)]
 fn answer_line(
     alloc: Global,
@@ -174,7 +176,8 @@ struct ScriptRun {
 }
 
 impl ScriptRun {
-    // Answers the line that is kept, and keeps nothing of the next one yet.
+    // Answers the line whose pieces were kept, and clears it for the next one. After an error the line stays; the run
+    // is given up then.
     fn answer_line_kept(&mut self) -> Result<(), AllocError>
         ensures names { self.new.room.names ≡ self.old.room.names }
         ensures types { self.new.room.types ≡ self.old.room.types }
@@ -190,7 +193,8 @@ impl ScriptRun {
         Ok(())
     }
 
-    // Answers the line that ends with these bytes, of which a front may be kept, and keeps nothing of the next one yet.
+    // Answers the line that ends with these bytes: one that came whole where it stands, without a copy, and one that
+    // came in pieces after they are joined.
     fn end_line(&mut self, bytes: &[u8]) -> Result<(), AllocError>
         requires { length self.old.line.items ≤ most_kept }
         ensures names { self.new.room.names ≡ self.old.room.names }
@@ -209,7 +213,8 @@ impl ScriptRun {
         answer_line(self.alloc, &mut self.room, bytes, &mut self.answers)
     }
 
-    // Takes the next bytes, and answers each line that they end. Of a rest that no LF ends the front is kept.
+    // Takes bytes that were read, and answers each line that they end. A rest without an LF is kept, up to 513 bytes.
+    // When out of memory the lines before were run; the run is given up then.
     fn feed(&mut self, bytes: &[u8]) -> Result<(), AllocError>
         requires { length self.old.line.items ≤ most_kept }
         ensures names { self.new.room.names ≡ self.old.room.names }
@@ -226,7 +231,8 @@ impl ScriptRun {
         keep(&mut self.line, rest)
     }
 
-    // Answers a last line that no LF ends, if there is one.
+    // At the end of the script: answers a last line that no LF ends, if there is one. When out of memory the line may
+    // have been run; the run is given up then.
     fn finish(&mut self) -> Result<(), AllocError>
         ensures names { self.new.room.names ≡ self.old.room.names }
         ensures types { self.new.room.types ≡ self.old.room.types }
@@ -241,7 +247,8 @@ impl ScriptRun {
     }
 }
 
-// Writes the answers that wait. After a failure only a front of them may be written, and all still wait.
+// Writes the answers that wait, and clears them. After a failure only a front of them may be written, and all still
+// wait; the run is given up then.
 fn send_answers<W: Sink>(writer: &mut W, answers: &mut Vec<u8>) -> Result<(), Failed>
     requires { W.failed_calls writer.old < 2 ^ 63 }
     ensures sent { OnOk result (Appends (W.taken writer.old) (W.taken writer.new)
@@ -257,8 +264,8 @@ fn send_answers<W: Sink>(writer: &mut W, answers: &mut Vec<u8>) -> Result<(), Fa
     Ok(())
 }
 
-// Reads once and answers the lines that are whole then; at the end also a rest that no LF ends. Says whether that was
-// the end.
+// One round of `replay_session`: reads once, answers the lines that are whole then, at the end also a rest without an
+// LF, and writes the answers. Returned is whether that was the end.
 fn read_and_answer<R: Source, W: Sink>(
     reader: &mut R,
     writer: &mut W,
@@ -296,11 +303,11 @@ fn read_and_answer<R: Source, W: Sink>(
     Ok(count == 0)
 }
 
-/// Runs the script that the reader gives, in a new room of a session in which nothing was done yet, and writes an
-/// answer to each line. Gives the room; after a fault it is dropped, with the answers that aren't written.
+/// Runs the script that the reader gives in a new room of this session, which is before its first step, and writes an
+/// answer to each line. Returns the room; after a fault it is dropped, with the answers that aren't written.
 ///
-/// The answers to the lines of one read are written before the next read. A last line needs no LF. The reader is asked
-/// for `SCRIPT_BLOCK` bytes at a time, `MAX_READS` times at most.
+/// The answers to the lines of one read are written before the next read. A last line needs no LF. A read asks for
+/// `SCRIPT_BLOCK` bytes, and there are at most `MAX_READS` reads.
 pub fn replay_session<R: Source, W: Sink>(
     alloc: Global,
     reader: &mut R,
@@ -332,8 +339,8 @@ pub fn replay_session<R: Source, W: Sink>(
     Err(ReplayFault::Turns)
 }
 
-/// Opens a session with these types, and runs the script that the reader gives on it, as `replay_session` does. Where
-/// none is opened, nothing is read.
+/// `Session::open` and `replay_session` in one, for types that needn't fit each other. Where no session is opened,
+/// nothing is read or written.
 pub fn replay<R: Source, W: Sink>(
     alloc: Global,
     reader: &mut R,

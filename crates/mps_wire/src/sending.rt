@@ -5,7 +5,8 @@ ghost use Rattle.mps_wire.specs.Sending.{TookFront};
 
 use mps_dev::{Failed, Sink};
 
-/// Writes all the bytes, each once. A failed write ends it at once; only a front of them may be written then.
+/// Writes all of the bytes, in as many writes as the sink needs, as std's `write_all` does. A failed write ends it at
+/// once; only a front of the bytes may be written then. It does not allocate.
 pub fn send_all<W: Sink>(writer: &mut W, bytes: &[u8]) -> Result<(), Failed>
     requires { W.failed_calls writer.old < 2 ^ 63 }
     ensures sent { OnOk result (Appends (W.taken writer.old) (W.taken writer.new) bytes.now) }

@@ -33,6 +33,8 @@ pub struct JournalFolder<'a> {
     pub folder: &'a str,
     /// Whether nothing is answered before the disk has said that it is kept.
     pub sync: bool,
+    /// Whether a session that can't be kept stops the others too.
+    pub strict: bool,
 }
 
 /// What the program does without a network.

@@ -177,6 +177,14 @@ const SYNC: Word = Word {
     range: None,
 };
 
+// Whether a session that can't be kept stops the others too.
+const STRICT_SESSIONS: Word = Word {
+    name: "strict",
+    help: "With --journal: a session that can't be kept ends the server, or keeps it from starting",
+    given: Given::AloneWith("journal"),
+    range: None,
+};
+
 // How long a connection may be silent.
 const IDLE: Word = Word {
     name: "idle",
@@ -229,6 +237,7 @@ const FORMS: &[Form] = &[
             ENDLESS,
             JOURNAL,
             SYNC,
+            STRICT_SESSIONS,
             IDLE,
         ],
         some_of: &["connections", "endless", "journal"],
@@ -343,11 +352,14 @@ fn bound_in<'a>(found: &ArgMatches<'a>, name: &str, range: Range) -> Option<Opti
     }
 }
 
-// The folder where the sessions are kept, and whether it is synced, if a folder was given.
+// The folder where the sessions are kept, and how, if a folder was given.
 fn journal_in<'a>(found: &ArgMatches<'a>) -> Option<JournalFolder<'a>> {
     let folder = found.get_str("journal")?;
-    let sync = found.get_flag("sync");
-    Some(JournalFolder { folder, sync })
+    Some(JournalFolder {
+        folder,
+        sync: found.get_flag("sync"),
+        strict: found.get_flag("strict"),
+    })
 }
 
 // The order to serve the file, with what the options were given. The port is below 2^16 by its range.

@@ -6,7 +6,7 @@ use Rattle.mps_hub.specs.declared.server.ServeFault.TheVariants.{Accept as NotAc
 use Rattle.mps_hub.specs.Places.{IsSession}
 use Rattle.mps_program.specs.Served.{IsListeningLine, IsPortFor}
 use Rattle.mps_program.specs.declared.faults.ToolFault.{ToolFault}
-use Rattle.mps_program.specs.declared.faults.ToolFault.TheVariants.{Write, Bind, Accept, JournalLost, Memory}
+use Rattle.mps_program.specs.declared.faults.ToolFault.TheVariants.{Write, Bind, Accept, JournalBroken, Memory}
 
 -- the sink took such a text
 abbrev pub TookOne : (List ℕ → Type 0) → Option (List ℕ) → Option (List ℕ) → Type 0
@@ -23,11 +23,11 @@ IsHubFault first recorded Write = ⊤
 IsHubFault first recorded (Bind why) = ⊤
 IsHubFault first recorded Accept = ⊤
 IsHubFault first recorded Memory = ⊤
-IsHubFault first recorded (JournalLost session) = IsSession first recorded session
+IsHubFault first recorded (JournalBroken session) = IsSession first recorded session
 IsHubFault first recorded fault = ⊥
 
 -- why the serving ended, as the program tells it
 abbrev pub of_serving : ServeFault → ToolFault
 of_serving NotAccepted = Accept
 of_serving OutOfMemory = Memory
-of_serving (Unrecorded session) = JournalLost session
+of_serving (Unrecorded session) = JournalBroken session

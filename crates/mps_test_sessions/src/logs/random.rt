@@ -206,9 +206,17 @@ fn are_there(rt: &impl Abort, arena: &Arena, steps: &[Plain]) {
     for step in steps {
         assert!(rt; is_there(arena, steps, step), "step {}", step.id.number());
     }
-    assert_eq!(rt; arena.first(), nth_key(steps, Chain::All, 0));
-    assert_eq!(rt; arena.last(), last(steps, Chain::All));
-    assert_eq!(rt; (arena.len(), known(arena)), (steps.len(), steps.len()));
+    assert_eq!(rt;
+        arena.first(),
+        nth_key(steps, Chain::All, 0),
+        "the first step"
+    );
+    assert_eq!(rt; arena.last(), last(steps, Chain::All), "the last step");
+    assert_eq!(rt;
+        (arena.len(), known(arena)),
+        (steps.len(), steps.len()),
+        "the count of steps and of known numbers"
+    );
 }
 
 // What the k-th message that waits gives.
@@ -333,10 +341,16 @@ fn chain_of(place: u8, deed: Deed) -> Chain {
 fn join(rt: &(impl Abort + AllocGlobal), log: &mut Log, steps: &mut Vec<Plain>, row: Row) {
     let Row(place, deed, at, _) = row;
     let Some(id) = play(rt, log, place, deed, at) else {
-        assert!(rt; is_idle(steps, place, deed), "a message waits");
+        assert!(rt;
+            is_idle(steps, place, deed),
+            "a deed of role {place} is refused though a message waits"
+        );
         return;
     };
-    assert!(rt; !is_idle(steps, place, deed), "no message waits");
+    assert!(rt;
+        !is_idle(steps, place, deed),
+        "a deed of role {place} is done though no message waits"
+    );
     let bound = last(steps, chain_of(place, deed));
     let key = log.steps().by_id(id).expect(rt, "its key");
     let plain = Plain {
@@ -378,17 +392,29 @@ fn are_free_alike(log: &Log, steps: &[Plain]) -> bool {
 
 // Takes the first step from that place on that may go out of the log and of the list.
 fn leave(rt: &impl Abort, log: &mut Log, steps: &mut Vec<Plain>, from: usize) {
-    assert!(rt; are_free_alike(log, steps), "which may go");
+    assert!(rt;
+        are_free_alike(log, steps),
+        "the steps that may go are others"
+    );
     let place = free_from(steps, from);
     if place >= steps.len() {
         return;
     }
     let step = steps[place];
     let gone = remove(log, step.key).expect(rt, "it goes");
-    assert_eq!(rt; gone, step.id);
+    assert_eq!(rt; gone, step.id, "step {}, which goes", step.id.number());
     steps.remove(place);
-    assert!(rt; is_unknown(log.steps(), step.key), "it is gone");
-    assert_eq!(rt; log.steps().by_id(step.id), None);
+    assert!(rt;
+        is_unknown(log.steps(), step.key),
+        "the key of step {}, which is gone",
+        step.id.number()
+    );
+    assert_eq!(rt;
+        log.steps().by_id(step.id),
+        None,
+        "the number of step {}, which is gone",
+        step.id.number()
+    );
 }
 
 // One operation that the dice choose.
@@ -422,20 +448,23 @@ fn operations(rt: &(impl Abort + AllocGlobal), roles: u8, seed: u64, times: usiz
     }
 }
 
-// 4,000 operations of three roles, by the dice of seed 1; after each, all look-ups are compared with the list.
+// `mps_log::Log`: 4,000 operations of three roles, by the dice of seed 1; after each, all look-ups are compared with
+// the list.
 #[test]
-fn three_roles_at_random(rt: HostRuntime) {
+fn look_ups_agree_with_a_list_for_three_roles(rt: HostRuntime) {
     operations(&rt, 3, 1, 4000);
 }
 
-// 4,000 operations of five roles, by the dice of seed 2; after each, all look-ups are compared with the list.
+// `mps_log::Log`: 4,000 operations of five roles, by the dice of seed 2; after each, all look-ups are compared with the
+// list.
 #[test]
-fn five_roles_at_random(rt: HostRuntime) {
+fn look_ups_agree_with_a_list_for_five_roles(rt: HostRuntime) {
     operations(&rt, 5, 2, 4000);
 }
 
-// 3,000 operations of eight roles, the most, by the dice of seed 3; after each, all look-ups are compared.
+// `mps_log::Log`: 3,000 operations of eight roles, the most, by the dice of seed 3; after each, all look-ups are
+// compared.
 #[test]
-fn eight_roles_at_random(rt: HostRuntime) {
+fn look_ups_agree_with_a_list_for_eight_roles(rt: HostRuntime) {
     operations(&rt, 8, 3, 3000);
 }

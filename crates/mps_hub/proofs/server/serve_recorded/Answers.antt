@@ -15,4 +15,4 @@ scoped-accepted-requires g c =
     record { at = λ a. (t.static-R, (t.static-G, (t.static-S, (t.static-D, (search sendable, search sendable, search sendable, search sendable))))) }
 
 pub returns-clause-unrecorded : goal.returns-clause-unrecorded
-returns-clause-unrecorded g c = more_recorded c.args.serving.now.desk.now.first (length c.args.serving.now.keepers.now) c.counted.result c.counted.ensures.unrecorded
+returns-clause-unrecorded g c = more_recorded c.args.limits.strict c.args.serving.now.desk.now.first (length c.args.serving.now.keepers.now) c.counted.result c.counted.ensures.unrecorded

@@ -1,7 +1,18 @@
 -- `serve_from` meets its contract, by the lemmas of Causes.
 use Rattle.std.proofs.Common.{◌∙◌}
-use Rattle.mps_program.proofs.Causes.{server_fails}
+use Rattle.std.specs.Option.{option_map}
+use Rattle.mps_program.specs.Served.{IsServeFault}
+use Rattle.mps_program.proofs.Causes.{server_fails, session_fails, told}
 use Rattle.mps_program.proofs.serving.serve_from.Goals as goal
 
 pub returns : goal.returns
 returns g c = record { fault = server_fails c.serve_to.result c.args.file.now _ _ _ _ _ _ c.in_ok-rooms.ensures.keepers c.in_ok-hub.ensures.first (c.in_ok-hub.ensures.cells.count ∙ c.in_ok-rooms.ensures.rooms) c.serve_to.ensures.fault }
+
+-- each session was refused
+pub returns-in_err-tell_refused : goal.returns-in_err-tell_refused
+returns-in_err-tell_refused g c =
+    let folder = option_map (λ j. j.folder.now) c.args.service.journal in
+    record {
+      fault = told _ (IsServeFault c.args.file.now folder c.args.service.first c.args.service.sessions) _ c.from_residual-in_err-tell_refused.ensures.1
+          (session_fails c.args.file.now folder c.args.service.first c.args.service.sessions _ _ _ c.in_err-tell_refused.ensures.1 c.in_ok-rooms.ensures.refused);
+    }

@@ -16,5 +16,5 @@ returns c =
     answered c.args.self.now _ c.args.role c.args.line.now c.self.inside.solo c.turn_to.new.solo left c.self.inside.numbers c.turn_to.new.numbers
     (ap (λ (e : EmbeddedState). e.room) (sym c.self.view_is)) (ap (λ (e : EmbeddedState). e.numbers) (sym c.self.view_is))
     t.room t.role (omega (arith, t.each, c.requires.known, c.requires.few)) t.numbers t.same
-    (subst (λ (o : Outcome). RepliesTo ghosts c.args.line.now c.turn_to.new.solo (reply_of o (kept_of left.numbers.newest)) left) (sym c.put.ensures) c.take_line-outcome.ensures)
+    (subst (λ (o : Outcome). RepliesTo ghosts c.args.line.now c.turn_to.new.solo (reply_of o (kept_of left.numbers.newest)) left) (sym c.replace_outcome.ensures) c.take_line-outcome.ensures)
     refl refl

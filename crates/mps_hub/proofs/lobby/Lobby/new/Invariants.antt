@@ -5,6 +5,6 @@ use Rattle.mps_hub.proofs.lobby.Lobby.new.Given as goal
 
 abbrev pub invariant-loop : goal.invariant-loop
 invariant-loop l = record {
-  count : vec_len l.streams ≡ l.counter;
-  space : MAX_OPEN ≤ vec_capacity l.streams;
+  count : vec_len l.places ≡ l.counter;
+  space : MAX_OPEN ≤ vec_capacity l.places;
 }

@@ -1,7 +1,7 @@
--- In each turn of the loop of `make` when what waits is made, it is the copy.
+-- In each turn of the loop of `make_copy` when what waits is made, it is the copy.
 use Rattle.std.proofs.Common.{◌≡◌}
 use Rattle.mps_local.specs.Private.Copying.{stacks, nothing_made, with_next, with_all, left_weight}
-use Rattle.mps_local.proofs.copying.make.Given as goal
+use Rattle.mps_local.proofs.copying.make_copy.Given as goal
 
 -- when what waits is made, it is
 abbrev pub invariant-loop-next : goal.invariant-loop-next

@@ -1,0 +1,165 @@
+//! mps_words: the words of a call become an order, or are refused.
+
+use mps_program::{ToolFault, status};
+use mps_words::order;
+use std::alloc::{AllocError, Global};
+use std::test::Fail;
+
+// What the words are read as, or the status of the fault.
+fn ordered(alloc: Global, words: &[&str]) -> Result<String, AllocError> {
+    match order(alloc, words) {
+        Ok(order) => format!(in alloc; "{order:?}"),
+        Err(fault) => format!(in alloc; "{}", status(&ToolFault::from(fault))),
+    }
+}
+
+// Words, and what they are read as begins with: an order as it is shown (`Debug`), or the status 2 of a fault of use.
+struct Words(&'static [&'static str], &'static str);
+
+const ORDERS: &[Words] = &[
+    // tasks without a network, each with its files
+    Words(
+        &["mps_tool", "run", "a.protocol", "a.script"],
+        "Offline { task: Run { file: \"a.protocol\", script: \"a.script\", strict: false }, verbose: false }",
+    ),
+    Words(
+        &["mps_tool", "run", "--strict", "a.protocol", "-"],
+        "Offline { task: Run { file: \"a.protocol\", script: \"-\", strict: true }, verbose: false }",
+    ),
+    Words(
+        &["mps_tool", "same", "a.protocol", "a.script", "b.script"],
+        "Offline { task: Same { file: \"a.protocol\", first: \"a.script\", second: \"b.script\" }, verbose: false }",
+    ),
+    Words(
+        &["mps_tool", "check", "a.protocol"],
+        "Offline { task: Check { file: \"a.protocol\" }, verbose: false }",
+    ),
+    // a server: which connections it accepts, and where it records
+    Words(
+        &[
+            "mps_tool",
+            "serve",
+            "a.protocol",
+            "--port=0",
+            "--sessions=2",
+            "--endless",
+        ],
+        "Serve { file: \"a.protocol\", port: 0, sessions: 2, first: 1, connections: None, idle: None, journal: None, verbose: false }",
+    ),
+    Words(
+        &[
+            "mps_tool",
+            "serve",
+            "a.protocol",
+            "--port=0",
+            "--sessions=2",
+            "--connections=3",
+            "-v",
+        ],
+        "Serve { file: \"a.protocol\", port: 0, sessions: 2, first: 1, connections: Some(3), idle: None, journal: None, verbose: true }",
+    ),
+    Words(
+        &[
+            "mps_tool",
+            "serve",
+            "a.protocol",
+            "--port=0",
+            "--sessions=2",
+            "--journal=kept",
+        ],
+        "Serve { file: \"a.protocol\", port: 0, sessions: 2, first: 1, connections: None, idle: None, ",
+    ),
+    // which connections it accepts is said in one way, unless it has a journal
+    Words(
+        &[
+            "mps_tool",
+            "serve",
+            "a.protocol",
+            "--port=0",
+            "--sessions=2",
+        ],
+        "2",
+    ),
+    Words(
+        &[
+            "mps_tool",
+            "serve",
+            "a.protocol",
+            "--port=0",
+            "--sessions=2",
+            "--connections=3",
+            "--endless",
+        ],
+        "2",
+    ),
+    // `-v` may stand anywhere, and more than once
+    Words(
+        &["mps_tool", "-v", "check", "a.protocol"],
+        "Offline { task: Check { file: \"a.protocol\" }, verbose: true }",
+    ),
+    Words(
+        &["mps_tool", "check", "--verbose", "a.protocol"],
+        "Offline { task: Check { file: \"a.protocol\" }, verbose: true }",
+    ),
+    Words(
+        &[
+            "mps_tool",
+            "-v",
+            "-v",
+            "check",
+            "-vv",
+            "a.protocol",
+            "--verbose",
+        ],
+        "Offline { task: Check { file: \"a.protocol\" }, verbose: true }",
+    ),
+    // the greatest number of a first session, 2^63
+    Words(
+        &[
+            "mps_tool",
+            "serve",
+            "a.protocol",
+            "--port=0",
+            "--sessions=2",
+            "--first=9223372036854775808",
+            "--endless",
+        ],
+        "Serve { file: \"a.protocol\", port: 0, sessions: 2, first: 9223372036854775808, ",
+    ),
+    // use and version
+    Words(&["mps_tool", "--help"], "Offline { task: Help { text: "),
+    Words(
+        &["mps_tool", "--version"],
+        "Offline { task: Help { text: \"mps_tool 0.2.0\" }, verbose: false }",
+    ),
+    // words too few, too many, or unknown
+    Words(&["mps_tool"], "2"),
+    Words(&["mps_tool", "fly"], "2"),
+    Words(&["mps_tool", "check"], "2"),
+    Words(&["mps_tool", "check", "a.protocol", "more"], "2"),
+    Words(&["mps_tool", "run"], "2"),
+    Words(&["mps_tool", "run", "a.protocol"], "2"),
+    Words(&["mps_tool", "run", "a.protocol", "a.script", "more"], "2"),
+    Words(&["mps_tool", "same", "a.protocol", "a.script"], "2"),
+    Words(
+        &[
+            "mps_tool",
+            "same",
+            "a.protocol",
+            "a.script",
+            "b.script",
+            "more",
+        ],
+        "2",
+    ),
+];
+
+// `mps_words::order` reads each command with its options, and refuses words that are none.
+#[test]
+fn words_become_an_order_or_are_refused(rt: HostRuntime) -> Result<(), Fail> {
+    for Words(words, want) in ORDERS {
+        let found = ordered(rt.alloc(), words)?;
+        assert!(rt; found.as_str().starts_with(want), "{found} for {words:?}");
+    }
+    Ok(())
+}
