@@ -95,8 +95,8 @@ fn file_bytes<R: Files + AllocGlobal>(rt: &R, path: &str, most: u64) -> io::Resu
     fs::read(rt, path)
 }
 
-// Whether the path is the name of this file itself, and of no link to it.
-fn names<R: Files>(rt: &R, path: &str, file: &File) -> io::Result<bool> {
+/// Whether the path is the name of this file itself, and of no link to it.
+pub(crate) fn names<R: Files>(rt: &R, path: &str, file: &File) -> io::Result<bool> {
     let named = fs::symlink_metadata(rt, path)?;
     let opened = file.metadata()?;
     Ok(named.dev() == opened.dev() && named.ino() == opened.ino())
@@ -109,8 +109,10 @@ pub(crate) fn open_own<R: Files<File = File>>(
     folder: &str,
     path: &str,
 ) -> io::Result<File> {
+    let named = fs::symlink_metadata(rt, path);
+    let is_new = named.is_err();
     // before it is opened, which would make the file that a link leads to
-    if fs::symlink_metadata(rt, path).is_ok_and(|named| named.is_symlink()) {
+    if named.is_ok_and(|named| named.is_symlink()) {
         return Err(io::Error::from(ErrorKind::InvalidInput));
     }
     let mut options = File::options();
@@ -121,6 +123,10 @@ pub(crate) fn open_own<R: Files<File = File>>(
         return Err(io::Error::from(ErrorKind::InvalidInput));
     }
     if about.uid() != fs::metadata(rt, folder)?.uid() {
+        // so that one start as root shuts nobody out
+        if is_new {
+            fs::remove_file(rt, path)?;
+        }
         return Err(io::Error::from(ErrorKind::PermissionDenied));
     }
     Ok(file)
@@ -167,16 +173,13 @@ impl Begun {
         Ok(found)
     }
 
-    /// Adds that the session has begun, unless it says so. A line that was torn when it was written stays alone.
+    /// Adds that the session has begun, unless it says so. It begins a line of its own, since a write before it may have broken
+    /// off.
     pub(crate) fn add(&mut self, alloc: Global, session: u64) -> io::Result<()> {
         if self.has(alloc, session)? {
             return Ok(());
         }
-        let line = if self.text.last().is_some_and(|last| *last != b'\n') {
-            format!(in alloc; "\n{session} begun\n")?
-        } else {
-            format!(in alloc; "{session} begun\n")?
-        };
+        let line = format!(in alloc; "\n{session} begun\n")?;
         self.file.write_all(line.as_bytes())?;
         Ok(self.text.extend_from_slice(line.as_bytes())?)
     }

@@ -9,7 +9,7 @@ ghost use Rattle.mps_program.specs.declared.faults.ToolFault.TheVariants.{Memory
 
 use crate::faults::ToolFault;
 use crate::folder::{
-    Begun, has_protocol, make_folder, open_own, sync_folders, unusable, write_whole,
+    Begun, has_protocol, make_folder, names, open_own, sync_folders, unusable, write_whole,
 };
 use crate::journal_file::{About, FileKeeper, parted};
 use crate::rooms::room_of;
@@ -86,12 +86,16 @@ impl<'a> Refusals<'a> {
     }
 }
 
-// The file, once no other process has it.
-fn locked(file: File) -> io::Result<File> {
-    match file.try_lock() {
-        Ok(()) => Ok(file),
-        Err(why) => Err(io::Error::from(why)),
+// The folder's file, once no other process has it. Before it was locked another may have removed it.
+fn own_locked<R: Files<File = File>>(rt: &R, folder: &str, path: &str) -> io::Result<File> {
+    let file = open_own(rt, folder, path)?;
+    if let Err(why) = file.try_lock() {
+        return Err(io::Error::from(why));
     }
+    if !names(rt, path, &file)? {
+        return Err(io::Error::from(ErrorKind::NotFound));
+    }
+    Ok(file)
 }
 
 // Why a session was not restored, as the program tells it.
@@ -188,9 +192,8 @@ impl<'o, 'a> Folder<'o, 'a> {
         }
         let folder = self.journal.folder;
         let parent = format!(in self.alloc; "{folder}/..")?;
-        let synced = begun
-            .sync()
-            .and_then(|()| sync_folders(rt, folder, parent.as_str()));
+        // the folder first: what has begun has its file
+        let synced = sync_folders(rt, folder, parent.as_str()).and_then(|()| begun.sync());
         match synced {
             Ok(()) => Ok(()),
             Err(error) => Err(unusable(folder, error)),
@@ -203,7 +206,7 @@ impl<'o, 'a> Folder<'o, 'a> {
     {
         let folder = self.journal.folder;
         let path = format!(in self.alloc; "{folder}/{session}.journal")?;
-        match open_own(rt, folder, path.as_str()).and_then(locked) {
+        match own_locked(rt, folder, path.as_str()) {
             Ok(file) => Ok(file),
             Err(why) => Err(ToolFault::JournalFile {
                 session,
@@ -226,7 +229,8 @@ impl<'o, 'a> Folder<'o, 'a> {
         }
     }
 
-    // The same, with the file. A file of a session that has begun, but has no line, was lost.
+    // The same, with the file. That of a session that has begun ever had the mark: without a line it was lost, and without the
+    // mark another was put in its place.
     fn restore_one<R: Files<File = File>>(
         &self,
         rt: &R,
@@ -239,10 +243,13 @@ impl<'o, 'a> Folder<'o, 'a> {
     {
         let file = self.open(rt, session)?;
         let (room, restored) = self.restore(session, &file)?;
-        if restored.bytes == 0 && begun.has(self.alloc, session)? {
+        if restored.chain.is_sealed || !begun.has(self.alloc, session)? {
+            return Ok((room, RestoredFile { file, restored }));
+        }
+        if restored.bytes == 0 {
             return Err(lost(session, io::Error::from(ErrorKind::UnexpectedEof)));
         }
-        Ok((room, RestoredFile { file, restored }))
+        Err(unrestored(session, RestoreFault::Changed { line: 1 }))
     }
 
     // The session's room and file; of a session that was refused a new room.
