@@ -191,7 +191,23 @@ class WrongNumber(Refused):
     word = "number"
 
 
+class Busy(Refused):
+    """The server has as many sessions open as may be, and had until patience ran out."""
+    word = "busy"
+
+
+class BadJournal(Refused):
+    """The server can't use the session's file."""
+    word = "journal"
+
+
+class Elsewhere(Refused):
+    """Another server has the session, and had until patience ran out."""
+    word = "elsewhere"
+
+
 REFUSALS = {kind.word: kind for kind in Refused.__subclasses__()}
+PASSING = (Taken, Busy, Elsewhere)  # of a join, which is tried again then
 
 
 class Received(NamedTuple):
@@ -395,8 +411,8 @@ class Role:
     port, host       where the server listens
     numbers          the file that keeps the newest number; where there is none it is found by asking for 1, 2, 3 and so on
     timeout          seconds until an answer that hasn't come counts as a broken connection
-    patience         seconds for which a server that isn't there or doesn't answer, and a role that is taken, are tried again;
-                     with 0 there is one try, for `timeout`
+    patience         seconds for which a server that isn't there or doesn't answer, a role that is taken, and a session that isn't
+                     opened now are tried again; with 0 there is one try, for `timeout`
 
     Each time may be math.inf, also that of a receipt: then the waiting has no limit.
 
@@ -634,10 +650,10 @@ class Role:
         for pause in pauses(0.01, 0.5):
             try:
                 return act(min(time.monotonic() + self.timeout, end if self.patience else limit))
-            except (OSError, Taken) as error:
+            except (OSError, *PASSING) as error:
                 self.close()
                 if time.monotonic() + pause > end:
-                    if isinstance(error, Taken):
+                    if isinstance(error, PASSING):
                         raise
                     raise Unreachable(f"no server answers at {self.address[0]}:{self.address[1]}: {error}") from error
             time.sleep(pause)

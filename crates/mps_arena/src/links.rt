@@ -1,4 +1,4 @@
-//! Writes of links, one at a time, and of all that a step joins or leaves.
+//! Writes of links, one at a time, and of all that a step joins or leaves; and the look-up by number.
 ghost use Rattle.std.specs.Prelude.{◌≡◌, ℕ, ◌+◌, ◌<◌, ◌^◌, ◌==◌, if◌then◌else◌, Some, None};
 ghost use Rattle.std.specs.Option.{option_map};
 ghost use Rattle.slab.specs.Slab.{get, slab_len, HasRoomFor, ContainsKey};
@@ -76,6 +76,7 @@ pub(crate) fn set_matched(nodes: &mut Slab<Node>, at: Link, to: Link)
 }
 
 /// Sets or clears the flag of the node with the key, for `Arena::set_mark`. Without such a node, nothing changes. O(1).
+/// Here, as the other writes, which all say `Rewrites`.
 pub(crate) fn set_marked(nodes: &mut Slab<Node>, key: Key, marked: bool)
     ensures { Rewrites nodes.old nodes.new (λ k n.
         record n { marked = if k == key then marked else n.marked }) }
@@ -85,8 +86,9 @@ pub(crate) fn set_marked(nodes: &mut Slab<Node>, key: Key, marked: bool)
     }
 }
 
-/// Inserts a node under the next free key, and links the last node of each of its lists to it, and its send to it.
-/// Memory was reserved, so it can't fail. O(1).
+/// Inserts a node under the next free key, and links the last node of each of its lists to it, and its send to it. Memory
+/// was reserved, so it can't fail. O(1). Apart, since its contract is by the slab alone, and its caller's by the list of
+/// steps.
 #[inline(always)]
 pub(crate) fn join(nodes: &mut Slab<Node>, key: Key, node: Node)
     requires room { HasRoomFor nodes.old 1 }
@@ -109,7 +111,7 @@ pub(crate) fn join(nodes: &mut Slab<Node>, key: Key, node: Node)
 }
 
 /// Removes a node that is the last of its role, links its neighbours to each other, and frees its send to be received
-/// again. Its key is the next that is given. O(1).
+/// again. Its key is the next that is given. O(1). Apart, as `join`.
 pub(crate) fn part(nodes: &mut Slab<Node>, key: Key) -> Node
     requires { ContainsKey nodes.old key }
     ensures node { get nodes.old key ≡ Some result }
@@ -130,8 +132,9 @@ pub(crate) fn part(nodes: &mut Slab<Node>, key: Key) -> Node
     node
 }
 
-/// The key of the step that has the number, from 1, or `None`. The index has the key that the number had; the node
-/// there may be gone or be a later step's by now, so its number is compared. O(1).
+/// The key of the step that has the number, from 1, or `None`. The index has the key that the number had; the node there
+/// may be gone or be a later step's by now, so its number is compared. O(1). Apart from `Arena::by_id`, since its contract
+/// is by the index, and that one's by the list of steps.
 pub(crate) fn key_of(nodes: &Slab<Node>, index: &[Key], id: StepId) -> Option<Key>
     ensures { result ≡ indexed_key (get nodes.now) index.now id }
 {

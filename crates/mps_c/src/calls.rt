@@ -24,8 +24,8 @@ fn length_or_none(written: Result<usize, AllocError>) -> usize
     }
 }
 
-/// Opens a room of a new session of the protocol that the text spells, in a box, since C holds a pointer. The first
-/// fault is returned, and `Memory` only where there is no other.
+/// Opens a room of a new session of the protocol that the text spells, in a box, since C holds a pointer. The error is
+/// the first fault, or `Memory` where memory ran out before one was found; after it nothing is kept.
 pub fn open(alloc: Global, text: &[u8]) -> Result<Box<Embedded>, Fault>
     ensures opened { IfOk result (λ made. IsNewRoomOf text.now made.value) }
     ensures fault { IfErr result (GivesNoSession text.now) }

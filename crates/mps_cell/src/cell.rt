@@ -209,8 +209,9 @@ impl Cell {
         ))
     }
 
-    /// `deal` and `passes_of` in one: one pass for each role, in order, once in the cell's life. After `Memory` there
-    /// are no passes, and later calls are `Given`.
+    /// `deal` and `passes_of` in one: one pass for each role, in order, once in the cell's life. `Given` where the deal
+    /// was taken before, by this or by `deal`; `Memory` uses it up too. The passes borrow the cell mutably, and nothing is
+    /// known of it afterwards: who wants `close_with` calls `deal` and `passes_of`.
     pub fn passes(&mut self) -> Result<Vec<Pass<'_>>, PassFault>
         ensures given { IsErrOf result Given ↔ (self.old.given ≡ true) }
         ensures passes { IfOk result (λ v. v.items
@@ -267,8 +268,9 @@ impl Cell {
     }
 }
 
-// Makes a pass for each role with its numbers, in the order of the roles; each takes its role's part of the first seat.
-// `all` has space for them, so it can't fail.
+// The loop of `passes_of`, over the parts of the cell and its deal: makes a pass for each role, in order, of its part of
+// the first seat and its newest numbered command, if any. `begun` is how many entries the journal had as the cell was
+// opened. `all` comes empty with space for them, so it can't fail.
 fn hand_out<'a>(
     shared: &'a SharedTable,
     waiting: &'a AtomicU64,

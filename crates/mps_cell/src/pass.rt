@@ -193,7 +193,8 @@ impl<'a> Pass<'a> {
         ))
     }
 
-    /// How many entries the journal has by now: one atomic load. It never waits, and does not allocate.
+    /// How many entries, of all roles, the journal has, by one atomic load: no fewer than this pass was told of before,
+    /// and without that of a call that is under way. `seen` stays at the last call's. It never waits, and does not allocate.
     pub fn front(&mut self) -> u64
         ensures told { LearnsLength self.old result self.new }
     {
@@ -231,7 +232,7 @@ impl<'a> Pass<'a> {
     }
 
     // Stores the answer to a numbered command under its number, and drops the one before it. For `Held`, whose callers
-    // have checked the number.
+    // have checked the number, and which doesn't see the field.
     pub(crate) fn keep(&mut self, number: u64, answer: Answer)
         ensures keep { self.new ≡ carried self.old (Some (record { number = number; answer = answer })) }
     {

@@ -167,7 +167,8 @@ fn give_back(
     }
 }
 
-// Answers the command in the room, which stays the seat's. `seen` becomes the journal's length.
+// Answers the command in the room, which stays the seat's. `seen` becomes the journal's length. Apart from `finish`, so
+// that the seat lends the room no more at its end: by the clause `room` `give_back` may be called then.
 fn answer_in(
     shared: &SharedTable,
     seat: &mut Seat<Room, SeatView>,

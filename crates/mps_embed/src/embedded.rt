@@ -53,7 +53,8 @@ impl Model for Embedded {
 }
 
 // Makes this role the one that speaks: its numbers are swapped into `solo`, and those of the role before back into the
-// array. So one caller serves all roles without copies. O(1); it does not allocate.
+// array. So one caller serves all roles without copies. O(1); it does not allocate. Apart from `run`, whose proof cites
+// its clauses.
 fn turn_to(solo: &mut Solo, numbers: &mut [Numbers; 8], role: Role)
     requires known { role < length solo.old.room.types }
     requires few { length solo.old.room.types ≤ 8 }
@@ -97,7 +98,7 @@ fn no_numbers() -> [Numbers; 8]
 
 impl Embedded {
     /// A room of a new session of the protocol that the text spells; before the first line its answer is `refused
-    /// norole`. The first fault of text or protocol is returned, and `Memory` only where there is no other.
+    /// norole`. The error is the first fault of text or protocol, or `Memory` where memory ran out before one was found.
     pub fn open(alloc: Global, text: &[u8]) -> Result<Embedded, Fault>
         ensures opened { IfOk result (IsNewRoomOf text.now) }
         ensures fault { IfErr result (GivesNoSession text.now) }
@@ -114,7 +115,8 @@ impl Embedded {
         })
     }
 
-    // Runs the line as a command of the role, and stores the outcome. `line` has looked the role up.
+    // Runs the line as a command of the role, and stores the outcome. `line` has looked the role up. Apart from
+    // `line`, whose clause `known` is this one's at the place that was found.
     fn run(&mut self, role: Role, line: &[u8])
         requires known { role < length self.old.room.types }
         requires few { length self.old.room.types ≤ 8 }

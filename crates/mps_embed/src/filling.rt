@@ -12,8 +12,8 @@ use mps_wire::laws::each_entry_can_be_written;
 use mps_wire::write_outcome;
 use std::alloc::AllocError;
 
-// Copies the front of the text over the front of `out`, as many bytes as both have; the rest of `out` stays. So a
-// caller learns with one call what fits.
+// Copies the front of the text over the front of `out`, as many bytes as both have; the rest of `out` stays, and no NUL is
+// put after them. For calls that return how long the whole text is.
 fn copy_front(text: &[u8], out: &mut [u8])
     ensures { out.new ≡ front_over text.now out.old }
 {

@@ -62,8 +62,9 @@ pub fn removals_commute()
         → without_future (without_future h m) n ≡ without_future h m }
 {}
 
-/// A law: where numbers rise, `is_matched`, which goes by numbers, and `is_matched_after`, which goes by places, agree
-/// on a step and the one right after it. So proofs about exchanges of neighbours needn't look at the whole history.
+/// A law: where numbers rise, whether a step receives what the one right before it sends can be told from the steps
+/// before both (`is_matched_after`), and agrees with `is_matched`, which counts by numbers in the whole history. So
+/// proofs about exchanges of neighbours needn't look at what follows.
 pub fn neighbours_match_by_place()
     ensures { (a b : List Step) (s t : Step) → IsRising (a ++ s ∷ t ∷ b) →
         is_matched (a ++ s ∷ t ∷ b) s t ≡ is_matched_after a s t }

@@ -6,6 +6,7 @@ use Rattle.mps_dev.specs.declared.traits.Sink.{Ghosts as SinkGhosts}
 use Rattle.mps_dev.specs.declared.traits.Source.{Ghosts as SourceGhosts}
 use Rattle.mps_line.specs.declared.write_replies.Reply.{Reply}
 use Rattle.mps_line.specs.declared.write_replies.Reply.TheVariants.{Answer as Answered, BadLine, Joined, NoSession, NoRole, Taken, Number as WrongNumber}
+use Rattle.mps_line.specs.declared.write_replies.Reply.TheVariants.{Busy, Elsewhere, Unkept}
 use Rattle.mps_lines.specs.Lines.{front}
 use Rattle.mps_room.specs.declared.caller.Caller.{Ghosts}
 use Rattle.mps_hub.specs.Connections.{HasAttended, RepliesToFirst}
@@ -27,6 +28,9 @@ replies_whole offer keepers line kept NoRole is h = (h.0, h.1, joins_whole line 
 replies_whole offer keepers line kept Taken is h = (h.0, h.1, joins_whole line kept h.0 h.1 is h.2, h.3, h.4)
 replies_whole offer keepers line kept (Joined session name) is h = (joins_whole line kept session name is h.0, h.1, h.2)
 replies_whole offer keepers line kept WrongNumber is h = absurd h
+replies_whole offer keepers line kept Busy is h = absurd h
+replies_whole offer keepers line kept Unkept is h = absurd h
+replies_whole offer keepers line kept Elsewhere is h = absurd h
 replies_whole offer keepers line kept (Answered answer) is h = absurd h
 
 offered : (offer : Offer) (session : ℕ) (name : List ℕ) (pass : Known) → IsPassOf offer session name pass → HasSuchRole offer session name

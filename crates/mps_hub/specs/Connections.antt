@@ -8,7 +8,7 @@ use Rattle.mps_line.specs.Codes.{code_of}
 use Rattle.mps_line.specs.Replies.{SpellsReply}
 use Rattle.mps_line.specs.declared.write_replies.Reply.{Reply}
 use Rattle.mps_line.specs.declared.write_replies.Reply.TheVariants.{Answer as Answered, BadLine, Joined, NoSession, NoRole, Taken}
-use Rattle.mps_line.specs.declared.write_replies.Reply.TheVariants.{Number as WrongNumber}
+use Rattle.mps_line.specs.declared.write_replies.Reply.TheVariants.{Busy, Elsewhere, Number as WrongNumber, Unkept}
 use Rattle.mps_lines.specs.Lines.{ended}
 use Rattle.mps_room.specs.declared.caller.Caller.{Ghosts}
 use Rattle.mps_wire.specs.Endings.{EndedAs}
@@ -34,6 +34,9 @@ RepliesToFirst offer keepers line Taken = (session : ℕ) × (name : List ℕ) �
 RepliesToFirst offer keepers line (Joined session name) =
     IsJoin line session name × IsOpen offer keepers session × HasSuchRole offer session name
 RepliesToFirst offer keepers line WrongNumber = ⊥
+RepliesToFirst offer keepers line Busy = ⊥
+RepliesToFirst offer keepers line Unkept = ⊥
+RepliesToFirst offer keepers line Elsewhere = ⊥
 RepliesToFirst offer keepers line (Answered answer) = ⊥
 
 -- the reply was written with its LF, and nothing else

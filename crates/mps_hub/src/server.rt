@@ -1,5 +1,5 @@
 //! A server's connections, a thread for each.
-ghost use Rattle.std.specs.Prelude.{◌≡◌, ◌+◌, ◌<◌, ◌≤◌, ◌^◌, ◌↔◌, false, IfOk, IfErr, IfSome, IsOk, OnOk, OnErr, length};
+ghost use Rattle.std.specs.Prelude.{◌≡◌, ◌+◌, ◌<◌, ◌≤◌, ◌^◌, ◌↔◌, false, IfOk, IfErr, IfSome, IsOk, IsTrue, OnOk, OnErr, length};
 ghost use Rattle.std.specs.IoError.{error_kind};
 ghost use Rattle.mps_hub.specs.Serving.{IsServeFaultOf};
 
@@ -51,6 +51,9 @@ pub enum ServeFault {
     /// Nothing is answered any more that isn't recorded.
     #[error("lines of session {session} were lost")]
     Unrecorded { session: u64 },
+    /// Each session has no keeper, or its keeper lost lines.
+    #[error("no session is left")]
+    NoneLeft,
 }
 
 // Reads what the client still sends, for a while. If a connection is closed with bytes unread, the system may take
@@ -84,6 +87,23 @@ pub fn first_lost<S: Sink, D>(keepers: &[Option<Keeper<S, D>>]) -> Option<usize>
     keepers.iter().position(|keeper| is_lost(keeper))
 }
 
+// Whether no more connections are served: lines were lost, and the server is strict, or no session is left that is recorded.
+// Once it is so it stays so.
+fn is_over<S: Sink, D>(strict: bool, keepers: &[Option<Keeper<S, D>>]) -> bool
+    ensures recorded { IsTrue result → 0 < length keepers.now }
+{
+    if keepers.is_empty() {
+        return false;
+    }
+    if strict {
+        first_lost(keepers).is_some()
+    } else {
+        keepers
+            .iter()
+            .all(|keeper| keeper.is_none() || is_lost(keeper))
+    }
+}
+
 // A connection's place in the lobby.
 #[derive(Drop)]
 struct LobbyPlace<'l, R> {
@@ -100,12 +120,12 @@ impl<R: Wait> Usher for LobbyPlace<'_, R> {
 
 // Ends the connections of each session of which lines were lost; all, where that ends the server.
 fn end_lost<R: Wait, G, S: Sink, D>(serving: &Serving<'_, '_, R, G, S, D>, lobby: &Lobby) {
+    if is_over(lobby.limits().strict, serving.keepers) {
+        lobby.close(serving.rt);
+    }
     let mut session = serving.desk.first();
     for keeper in serving.keepers {
         if is_lost(keeper) {
-            if lobby.limits().strict {
-                lobby.close(serving.rt);
-            }
             lobby.end_session(serving.rt, session);
         }
         session = session.saturating_add(1);
@@ -257,7 +277,7 @@ fn accept_all<
 /// thread can't be started is closed and counted as lost. After a fault no more are accepted.
 ///
 /// Nothing is answered that isn't recorded. Where a keeper loses lines, the connections of its session are ended; where
-/// the limits are strict, all are, and the session is the fault.
+/// the limits are strict, all are, and the session is the fault. All are, too, where no session is left.
 pub fn serve_recorded<
     R: Threads + Wait + Clock + Eprint + Sync + 'static,
     G: Gate + Sync + 'static,
@@ -290,11 +310,14 @@ pub fn serve_recorded<
             });
         }
     }
+    if is_over(limits.strict, serving.keepers) {
+        return Err(ServeFault::NoneLeft);
+    }
     counted(limits, accepted)
 }
 
 // What so many lost connections come to. What the closure of the scope ensures isn't known here, since it borrows the
-// desk. So the count is limited by `min`, and a fault that tells of lost lines, which can't come, is told as one of
+// desk. So the count is limited by `min`, and faults that tell of lost lines, which can't come, are told as one of
 // accepting.
 fn counted(limits: Limits, accepted: Result<u64, ServeFault>) -> Result<Served, ServeFault>
     ensures served { IfOk result (λ s. IfSome limits.connections (λ n. s.ended + s.lost ≡ n)) }
@@ -311,7 +334,7 @@ fn counted(limits: Limits, accepted: Result<u64, ServeFault>) -> Result<Served, 
         }
         Err(ServeFault::Memory) => Err(ServeFault::Memory),
         Err(ServeFault::Accept) => Err(ServeFault::Accept),
-        Err(ServeFault::Unrecorded { .. }) => Err(ServeFault::Accept),
+        Err(ServeFault::Unrecorded { .. } | ServeFault::NoneLeft) => Err(ServeFault::Accept),
     }
 }
 

@@ -80,6 +80,7 @@ impl<'g, G: Gate, K: Recorder, C: Recordable> Guest<'g, G, K, C> {
     {
         self.line.clear();
         let role = self.inner.own_role();
+        // asked here too, since `call` has no premise: not each command comes from a line
         if !has_journal_line(self.inner.roles(), role, command) {
             return false;
         }

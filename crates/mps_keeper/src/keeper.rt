@@ -51,7 +51,8 @@ struct Waiting {
 }
 
 impl Waiting {
-    // Adds the line with its seal and an LF. Where memory runs out there is nothing more than before.
+    // Adds the line with its seal and an LF. Where memory runs out there is nothing more than before. Apart from
+    // `gather`, where each failure leads to the same.
     fn push(&mut self, line: &mut Vec<u8>) -> Result<(), AllocError>
         ensures whole { self.new.whole ≡ self.old.whole }
         ensures lines { self.new.lines ≡ self.old.lines }
@@ -104,6 +105,7 @@ pub struct Keeper<W: Sink, D> {
     disk: Option<D>,
     // how many lines are recorded
     recorded: AtomicU64,
+    // as `whole` of the lines that wait, for whoever has no lock on them
     lost: AtomicBool,
 }
 
@@ -146,7 +148,8 @@ impl<W: Sink, D> Keeper<W, D> {
         !self.is_broken() && self.recorded.load(Ordering::SeqCst) >= lines
     }
 
-    // Adds the nth line to those that wait, once those before it came.
+    // Adds the nth line to those that wait, once those before it came. A keeper's, since no other type takes its
+    // locks.
     fn gather<R: Wait>(&self, rt: &R, nth: u64, line: &mut Vec<u8>) {
         let mut waiting = self.came.wait_while(rt, self.waiting.lock(rt), |w| {
             w.whole && w.lines.saturating_add(1) < nth
@@ -156,7 +159,7 @@ impl<W: Sink, D> Keeper<W, D> {
         self.came.notify_all();
     }
 
-    // Waits until so many lines came.
+    // Waits until so many lines came. A keeper's, as `gather`.
     fn reach<R: Wait>(&self, rt: &R, lines: u64) {
         let waiting = self
             .came
@@ -165,6 +168,7 @@ impl<W: Sink, D> Keeper<W, D> {
     }
 
     // Hands over the lines that wait. Says how many there are now, and which seal the newest has, if none is lost.
+    // Apart from `flush`, so that lines may gather while these are written.
     fn hand_over<R: Wait>(&self, rt: &R, text: &mut Vec<u8>) -> Option<(u64, Seal)> {
         let mut waiting = self.waiting.lock(rt);
         if !waiting.whole {
@@ -191,7 +195,8 @@ impl<W: Sink, D: Disk> Keeper<W, D> {
         }
     }
 
-    // Writes the lines that were handed over, and syncs them. Says whether they are recorded.
+    // Writes the lines that were handed over, and syncs them. Says whether they are recorded. Apart from `flush`,
+    // since a function that locks can't say what it did, and this one does.
     fn write(&self, writing: &mut Writing<W>, lines: u64, seal: Seal) -> bool
         ensures taken { result ≡ true → Appends (W.taken (sink_of writing.old.book)) (W.taken (sink_of writing.new.book))
             writing.old.text.items }
@@ -299,6 +304,7 @@ impl<'k, R: Wait + Eprint, W: Sink, D: Disk> Recorder for Hold<'k, R, W, D> {
         let Some(keeper) = self.keeper else {
             return;
         };
+        // most often they are, and then no lock is taken
         if keeper.has_recorded(lines) {
             return;
         }

@@ -54,8 +54,8 @@ impl From<AllocError> for RestoreFault {
     }
 }
 
-/// How many bytes of a journal are asked for at a time.
-pub const JOURNAL_BLOCK: usize = 65_536;
+/// How many bytes of a journal are asked for at a time: few, since most files are short.
+pub const JOURNAL_BLOCK: usize = 4_096;
 
 /// Of a source with more bytes than these no more is read. A journal has fewer (`a_full_journal_is_read`).
 pub const MOST_BYTES: usize = 67_108_864;

@@ -14,6 +14,7 @@ use Rattle.mps_command.specs.declared.answer.Refusal.{Refusal}
 use Rattle.mps_command.specs.declared.answer.Refusal.TheVariants.{Final, Needed}
 use Rattle.mps_line.specs.declared.write_replies.Reply.{Reply}
 use Rattle.mps_line.specs.declared.write_replies.Reply.TheVariants.{Answer as Answered, BadLine, Joined, NoSession, NoRole, Taken, Number as WrongNumber}
+use Rattle.mps_line.specs.declared.write_replies.Reply.TheVariants.{Busy, Elsewhere, Unkept}
 use Rattle.mps_line.specs.Tokens.{Token, Word, Called, Number, Show, SpellsShow, SpellsToken, SpellsLine}
 use Rattle.mps_line.specs.Codes.{code_of, is_refusal, refusal_code}
 use Rattle.mps_line.specs.Private.Tokens.{HasNoSpace}
@@ -30,6 +31,9 @@ data Cause : Type 0 where
   Nobody : Cause
   Used : Cause
   Misnumbered : Cause
+  Crowded : Cause
+  Fileless : Cause
+  Outside : Cause
 
 -- the reply that says so
 abbrev reply_of : Cause → Reply
@@ -39,6 +43,9 @@ reply_of Nowhere = NoSession
 reply_of Nobody = NoRole
 reply_of Used = Taken
 reply_of Misnumbered = WrongNumber
+reply_of Crowded = Busy
+reply_of Fileless = Unkept
+reply_of Outside = Elsewhere
 
 -- its word, and the tokens after `refused`
 abbrev cause_word : Cause → List ℕ
@@ -48,6 +55,9 @@ cause_word Nowhere = codes "nosession"
 cause_word Nobody = codes "norole"
 cause_word Used = codes "taken"
 cause_word Misnumbered = codes "number"
+cause_word Crowded = codes "busy"
+cause_word Fileless = codes "journal"
+cause_word Outside = codes "elsewhere"
 
 abbrev cause_tokens : Cause → List Token
 cause_tokens (Because r) = refusal_tokens r
@@ -234,6 +244,9 @@ refused_or_not NoSession = inl (Nowhere, refl)
 refused_or_not NoRole = inl (Nobody, refl)
 refused_or_not Taken = inl (Used, refl)
 refused_or_not WrongNumber = inl (Misnumbered, refl)
+refused_or_not Busy = inl (Crowded, refl)
+refused_or_not Unkept = inl (Fileless, refl)
+refused_or_not Elsewhere = inl (Outside, refl)
 refused_or_not other = inr (λ e. absurd (omega (arith, e)))
 
 cause_letter : (c : Cause) → letter (reply_of c) ≡ 114
@@ -251,6 +264,9 @@ coded NoSession e = λ none. absurd (omega (arith, none))
 coded NoRole e = λ none. absurd (omega (arith, none))
 coded Taken e = λ none. absurd (omega (arith, none))
 coded WrongNumber e = λ none. absurd (omega (arith, none))
+coded Busy e = λ none. absurd (omega (arith, none))
+coded Unkept e = λ none. absurd (omega (arith, none))
+coded Elsewhere e = λ none. absurd (omega (arith, none))
 coded r e = absurd (omega (arith, e))
 
 -- and nowhere else
@@ -261,6 +277,9 @@ lettered NoSession some = refl
 lettered NoRole some = refl
 lettered Taken some = refl
 lettered WrongNumber some = refl
+lettered Busy some = refl
+lettered Unkept some = refl
+lettered Elsewhere some = refl
 lettered r some = absurd (some refl)
 
 refusal_at : (line : List ℕ) → is_refusal line ≡ (get_or line 0 0 == 114)
@@ -314,6 +333,9 @@ module _ (one_value : (a : List ℕ) (v w : Value) → SpellsValue a v → Spell
   one_other a NoRole s l other h k = absurd (other refl)
   one_other a Taken s l other h k = absurd (other refl)
   one_other a WrongNumber s l other h k = absurd (other refl)
+  one_other a Busy s l other h k = absurd (other refl)
+  one_other a Unkept s l other h k = absurd (other refl)
+  one_other a Elsewhere s l other h k = absurd (other refl)
   one_other a (Joined m x) (Answered (Shown y)) l other h k = absurd (omega (arith, l))
   one_other a r s l other h k = absurd (omega (arith, l))
 

@@ -12,6 +12,7 @@ use Rattle.mps_command.specs.declared.answer.Refusal.{Refusal}
 use Rattle.mps_command.specs.declared.answer.Refusal.TheVariants.{Violation as Violates, NoStep, NotYours, Final, Needed, NoMark, Full, Memory}
 use Rattle.mps_line.specs.declared.write_replies.Reply.{Reply}
 use Rattle.mps_line.specs.declared.write_replies.Reply.TheVariants.{Answer as Answered, BadLine, Joined, NoSession, NoRole, Taken, Number as WrongNumber}
+use Rattle.mps_line.specs.declared.write_replies.Reply.TheVariants.{Busy, Elsewhere, Unkept}
 use Rattle.mps_line.specs.Tokens.{Token, Word, Number, Show, SpellsNumber, SpellsToken, SpellsLine}
 use Rattle.mps_line.specs.Private.Tokens.{HasNoSpace}
 use Rattle.mps_line.specs.Replies.{word_of, message_token, done_tokens, refusal_tokens, SpellsReply}
@@ -19,7 +20,7 @@ use Rattle.mps_line.specs.Private.Replies.{lone_words, own_word, SpellsSteps}
 use Rattle.mps_line.proofs.Splitting.{one_split, never_split, digits_have_no_space, after_token, joined, alone, line_of_one}
 use Rattle.mps_line.proofs.CommandLines.{after_word}
 use Rattle.mps_line.proofs.ShownLines.{some_reply}
-use Rattle.mps_line.proofs.Writing.{bad_line, no_session, no_role, taken, wrong_number}
+use Rattle.mps_line.proofs.Writing.{bad_line, no_session, no_role, taken, wrong_number, busy, unkept, elsewhere}
 use Rattle.mps_line.proofs.OneReply.{letter, begins, alone_or_step, word_has_no_space}
 
 -- ---- a word in front
@@ -235,6 +236,9 @@ no_reply bytes d u n s j f NoSession h = f (begins bytes NoSession h)
 no_reply bytes d u n s j f NoRole h = f (begins bytes NoRole h)
 no_reply bytes d u n s j f Taken h = f (begins bytes Taken h)
 no_reply bytes d u n s j f WrongNumber h = f (begins bytes WrongNumber h)
+no_reply bytes d u n s j f Busy h = f (begins bytes Busy h)
+no_reply bytes d u n s j f Unkept h = f (begins bytes Unkept h)
+no_reply bytes d u n s j f Elsewhere h = f (begins bytes Elsewhere h)
 
 -- the reply that the first byte leaves is not spelled
 told : (bytes : List ℕ) (r : Reply) (c : ℕ) → get_or bytes 0 0 ≡ c → SpellsReply bytes r → c ≡ letter r
@@ -261,14 +265,17 @@ no_other_joined bytes e none (Joined session name) h = none session name h
 no_other_joined bytes e none (Answered (Shown text)) h = let t = told bytes (Answered (Shown text)) 106 e h in absurd (omega (arith, t))
 no_other_joined bytes e none r h = let t = told bytes r 106 e h in absurd (omega (arith, t))
 
-pub no_other_refused : (bytes : List ℕ) → get_or bytes 0 0 ≡ 114 → ((refusal : Refusal) → SpellsReply bytes (Answered (Refused refusal)) → ⊥) → (SpellsReply bytes BadLine → ⊥) → (SpellsReply bytes NoSession → ⊥) → (SpellsReply bytes NoRole → ⊥) → (SpellsReply bytes Taken → ⊥) → (SpellsReply bytes WrongNumber → ⊥) → (r : Reply) → SpellsReply bytes r → ⊥
-no_other_refused bytes e refusal line session role pass number (Answered (Refused r)) h = refusal r h
-no_other_refused bytes e refusal line session role pass number BadLine h = line h
-no_other_refused bytes e refusal line session role pass number NoSession h = session h
-no_other_refused bytes e refusal line session role pass number NoRole h = role h
-no_other_refused bytes e refusal line session role pass number Taken h = pass h
-no_other_refused bytes e refusal line session role pass number WrongNumber h = number h
-no_other_refused bytes e refusal line session role pass number r h = let t = told bytes r 114 e h in absurd (omega (arith, t))
+pub no_other_refused : (bytes : List ℕ) → get_or bytes 0 0 ≡ 114 → ((refusal : Refusal) → SpellsReply bytes (Answered (Refused refusal)) → ⊥) → (SpellsReply bytes BadLine → ⊥) → (SpellsReply bytes NoSession → ⊥) → (SpellsReply bytes NoRole → ⊥) → (SpellsReply bytes Taken → ⊥) → (SpellsReply bytes WrongNumber → ⊥) → (SpellsReply bytes Busy → ⊥) → (SpellsReply bytes Unkept → ⊥) → (SpellsReply bytes Elsewhere → ⊥) → (r : Reply) → SpellsReply bytes r → ⊥
+no_other_refused bytes e refusal line session role pass number busy journal elsewhere (Answered (Refused r)) h = refusal r h
+no_other_refused bytes e refusal line session role pass number busy journal elsewhere BadLine h = line h
+no_other_refused bytes e refusal line session role pass number busy journal elsewhere NoSession h = session h
+no_other_refused bytes e refusal line session role pass number busy journal elsewhere NoRole h = role h
+no_other_refused bytes e refusal line session role pass number busy journal elsewhere Taken h = pass h
+no_other_refused bytes e refusal line session role pass number busy journal elsewhere WrongNumber h = number h
+no_other_refused bytes e refusal line session role pass number busy journal elsewhere Busy h = busy h
+no_other_refused bytes e refusal line session role pass number busy journal elsewhere Unkept h = journal h
+no_other_refused bytes e refusal line session role pass number busy journal elsewhere Elsewhere h = elsewhere h
+no_other_refused bytes e refusal line session role pass number busy journal elsewhere r h = let t = told bytes r 114 e h in absurd (omega (arith, t))
 
 pub shown_read : (bytes text : List ℕ) → text ≡ bytes → IsShownText bytes → SpellsReply bytes (Answered (Shown text))
 shown_read bytes text e h = line_of_one [] bytes (Show text) (record { is = sym e; allowed = h })
@@ -279,4 +286,4 @@ lone_read bytes found e f = grind (arith, line_of_one)
 
 -- a word of a reply's own after `refused`
 pub own_line : (bytes rest : List ℕ) (reply : Reply) → bytes ≡ spaced (codes "refused" ∷ rest ∷ []) → rest ≡ own_word reply → 0 < length (own_word reply) → SpellsReply bytes reply
-own_line bytes rest reply e is some = grind (arith, bad_line, no_session, no_role, taken, wrong_number)
+own_line bytes rest reply e is some = grind (arith, bad_line, no_session, no_role, taken, wrong_number, busy, unkept, elsewhere)

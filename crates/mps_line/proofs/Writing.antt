@@ -11,6 +11,7 @@ use Rattle.mps_command.specs.declared.answer.Answer.TheVariants.{Refused}
 use Rattle.mps_command.specs.declared.answer.Refusal.TheVariants.{Violation as Violates, NoStep, NotYours, NoMark, Full, Memory}
 use Rattle.mps_command.specs.declared.answer.Violation.{Violation}
 use Rattle.mps_line.specs.declared.write_replies.Reply.TheVariants.{Answer as Answered, BadLine, NoSession, NoRole, Taken, Number as WrongNumber}
+use Rattle.mps_line.specs.declared.write_replies.Reply.TheVariants.{Busy, Elsewhere, Unkept}
 use Rattle.mps_line.specs.Replies.{word_of, done_tokens, news_tokens, SpellsReply}
 use Rattle.mps_line.specs.Tokens.{Token, Word, Number, Show, SpellsNumber, SpellsToken, SpellsLine}
 use Rattle.mps_line.proofs.Splitting.{after_token, joined, alone, line_of_one}
@@ -92,6 +93,15 @@ taken = record { spellings = codes "refused" ∷ codes "taken" ∷ []; joined = 
 
 pub wrong_number : SpellsReply (codes "refused number") WrongNumber
 wrong_number = record { spellings = codes "refused" ∷ codes "number" ∷ []; joined = refl; each = (refl, (refl, tt)) }
+
+pub busy : SpellsReply (codes "refused busy") Busy
+busy = record { spellings = codes "refused" ∷ codes "busy" ∷ []; joined = refl; each = (refl, (refl, tt)) }
+
+pub unkept : SpellsReply (codes "refused journal") Unkept
+unkept = record { spellings = codes "refused" ∷ codes "journal" ∷ []; joined = refl; each = (refl, (refl, tt)) }
+
+pub elsewhere : SpellsReply (codes "refused elsewhere") Elsewhere
+elsewhere = record { spellings = codes "refused" ∷ codes "elsewhere" ∷ []; joined = refl; each = (refl, (refl, tt)) }
 
 -- a token after a line
 token_after : (names : List (List ℕ)) (a b : List ℕ) (t : Token) (ts : List Token) (u : Token) → SpellsLine names a (t ∷ ts) → SpellsToken names b u → SpellsLine names (a ++ 32 ∷ b) (t ∷ (ts ++ u ∷ []))

@@ -9,6 +9,7 @@ use Rattle.mps_command.specs.declared.answer.Refusal.TheVariants.{Needed, NoMark
 use Rattle.mps_command.specs.declared.answer.Answer.TheVariants.{Refused}
 use Rattle.mps_line.specs.declared.write_replies.Reply.{Reply}
 use Rattle.mps_line.specs.declared.write_replies.Reply.TheVariants.{Answer as Answered, BadLine, NoSession, NoRole, Taken, Number as WrongNumber}
+use Rattle.mps_line.specs.declared.write_replies.Reply.TheVariants.{Busy, Elsewhere, Unkept}
 
 -- what a role's type doesn't allow: 1 to 7
 abbrev pub violation_code : Violation → ℕ
@@ -39,6 +40,9 @@ code_of NoSession = 15
 code_of NoRole = 16
 code_of Taken = 17
 code_of WrongNumber = 19
+code_of Busy = 20
+code_of Unkept = 21
+code_of Elsewhere = 22
 code_of reply = 0
 
 -- the line begins with an r, as a refusal's does

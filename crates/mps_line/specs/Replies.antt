@@ -11,7 +11,7 @@ use Rattle.mps_command.specs.declared.answer.Answer.{Answer}
 use Rattle.mps_command.specs.declared.answer.Answer.TheVariants.{Done, Undone, News, Shown, Refused}
 use Rattle.mps_line.specs.declared.write_replies.Reply.{Reply}
 use Rattle.mps_line.specs.declared.write_replies.Reply.TheVariants.{Answer as Answered, BadLine, Joined, NoSession, NoRole, Taken}
-use Rattle.mps_line.specs.declared.write_replies.Reply.TheVariants.{Number as WrongNumber}
+use Rattle.mps_line.specs.declared.write_replies.Reply.TheVariants.{Busy, Elsewhere, Number as WrongNumber, Unkept}
 use Rattle.mps_line.specs.Tokens.{Token, Word, Called, Number, Worth, Show, SpellsLine}
 
 -- the word for a refusal
@@ -73,6 +73,9 @@ reply_tokens NoSession = Word (codes "refused") ∷ Word (codes "nosession") ∷
 reply_tokens NoRole = Word (codes "refused") ∷ Word (codes "norole") ∷ []
 reply_tokens Taken = Word (codes "refused") ∷ Word (codes "taken") ∷ []
 reply_tokens WrongNumber = Word (codes "refused") ∷ Word (codes "number") ∷ []
+reply_tokens Busy = Word (codes "refused") ∷ Word (codes "busy") ∷ []
+reply_tokens Unkept = Word (codes "refused") ∷ Word (codes "journal") ∷ []
+reply_tokens Elsewhere = Word (codes "refused") ∷ Word (codes "elsewhere") ∷ []
 
 -- a line of these tokens, none of which is a role's name
 abbrev pub SpellsReply : List ℕ → Reply → Type 0

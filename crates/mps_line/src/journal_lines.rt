@@ -22,7 +22,8 @@ pub struct JournalLine {
     pub command: Command,
 }
 
-// Whether the peer of the command is one of these roles; true where it names none.
+// Whether the peer of the command is one of these roles; true where it names none. Apart, as each of the three parts of
+// `CanBeWritten` has a test of its own: this one is `NamesRolesOf`.
 fn names_roles(roles: &Roles, command: &Command) -> bool
     ensures { IsTrue result ↔ NamesRolesOf roles.now command.now }
 {
@@ -67,7 +68,8 @@ pub fn write_journal_line(
     written
 }
 
-// The writing of `write_journal_line`: when out of memory a part may stand in `out`, which the caller truncates.
+// The writing of `write_journal_line`: when out of memory a part may stand in `out`, which the caller truncates. Apart, so
+// that each `?` leads back to where it does.
 fn write_parts(
     roles: &Roles,
     role: Role,

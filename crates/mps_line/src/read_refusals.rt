@@ -6,10 +6,10 @@ ghost use Rattle.mps_command.specs.declared.answer.Refusal.{Refusal};
 ghost use Rattle.mps_command.specs.declared.answer.Refusal.TheVariants.{Violation as Violates};
 ghost use Rattle.mps_command.specs.declared.answer.Violation.{Violation};
 ghost use Rattle.mps_line.specs.Replies.{SpellsReply, refusal_tokens, word_of};
-ghost use Rattle.mps_line.specs.Private.Replies.{lone_words, own_word, own_words};
+ghost use Rattle.mps_line.specs.Private.Replies.{lone_words, opening_words, own_word, own_words};
 ghost use Rattle.mps_line.specs.Tokens.{Word, SpellsLine};
 ghost use Rattle.mps_line.specs.declared.write_replies.Reply.TheVariants.{Answer as Answered, BadLine, NoSession, NoRole, Taken};
-ghost use Rattle.mps_line.specs.declared.write_replies.Reply.TheVariants.{Number as WrongNumber};
+ghost use Rattle.mps_line.specs.declared.write_replies.Reply.TheVariants.{Busy, Elsewhere, Number as WrongNumber, Unkept};
 
 use crate::line_parts::{after_word, read_step};
 use crate::read_commands::LineFault;
@@ -28,6 +28,9 @@ pub(crate) fn refused_reply(bytes: &[u8]) -> Result<Reply, LineFault>
     ensures role { IsErrOf result LineFault.Bad → SpellsReply bytes.now NoRole → ⊥ }
     ensures pass { IsErrOf result LineFault.Bad → SpellsReply bytes.now Taken → ⊥ }
     ensures number { IsErrOf result LineFault.Bad → SpellsReply bytes.now WrongNumber → ⊥ }
+    ensures busy { IsErrOf result LineFault.Bad → SpellsReply bytes.now Busy → ⊥ }
+    ensures journal { IsErrOf result LineFault.Bad → SpellsReply bytes.now Unkept → ⊥ }
+    ensures elsewhere { IsErrOf result LineFault.Bad → SpellsReply bytes.now Elsewhere → ⊥ }
     ensures memory { IsErrOf result LineFault.Memory → ⊥ }
 {
     let Some(rest) = after_word(bytes, b"refused") else {
@@ -36,7 +39,10 @@ pub(crate) fn refused_reply(bytes: &[u8]) -> Result<Reply, LineFault>
     if let Some(refusal) = read_refusal(rest) {
         return Ok(Reply::Answer(Answer::Refused(refusal)));
     }
-    match own_reply(rest) {
+    if let Some(reply) = own_reply(rest) {
+        return Ok(reply);
+    }
+    match opening_reply(rest) {
         Some(reply) => Ok(reply),
         None => Err(LineFault::Bad),
     }
@@ -55,6 +61,21 @@ fn own_reply(word: &[u8]) -> Option<Reply>
         b"norole" => Some(Reply::NoRole),
         b"taken" => Some(Reply::Taken),
         b"number" => Some(Reply::Number),
+        _ => None,
+    }
+}
+
+// The reply of that word after `refused` that says why a session isn't opened; else `None`. Apart from `own_reply`, since the
+// search for a proof tries each path through a match of words.
+fn opening_reply(word: &[u8]) -> Option<Reply>
+    ensures read { IfSome result (λ reply. word.now ≡ own_word reply) }
+    ensures some { IfSome result (λ reply. 0 < length (own_word reply)) }
+    ensures none { IfNone result (IsNoneOf opening_words word.now) }
+{
+    match word {
+        b"busy" => Some(Reply::Busy),
+        b"journal" => Some(Reply::Unkept),
+        b"elsewhere" => Some(Reply::Elsewhere),
         _ => None,
     }
 }

@@ -108,7 +108,9 @@ fn write_forward(roles: &Roles, step: &Forward, out: &mut Vec<u8>) -> Result<(),
     }
 }
 
-// Whether something stands after the command's verb, so that a space is due: for all but `commit` and `show`.
+// Whether something stands after the command's verb, so that a space is due: for all but `commit` and `show`. Apart, as
+// the definition `TakesArguments` is, by which `read_arguments` goes too; the proof of `push_command` cites both
+// directions.
 fn takes_arguments(command: &Command) -> bool
     ensures { IsTrue result ↔ TakesArguments command.now }
 {

@@ -32,10 +32,16 @@ pub enum Reply {
     Taken,
     /// The number of the line is neither that of the last accepted one nor the one after it.
     Number,
+    /// As many sessions are open as may be.
+    Busy,
+    /// The session's file can't be used.
+    Unkept,
+    /// Another server has the session.
+    Elsewhere,
 }
 
 impl Reply {
-    /// The code of a refusal, 1 to 19, for clients that have no words; 0 for any other reply. The codes are those of
+    /// The code of a refusal, 1 to 22, for clients that have no words; 0 for any other reply. The codes are those of
     /// docs/FORMATS.md.
     pub fn code(&self) -> u8
         ensures { result ≡ code_of self.now }
@@ -47,6 +53,9 @@ impl Reply {
             Reply::NoRole => 16,
             Reply::Taken => 17,
             Reply::Number => 19,
+            Reply::Busy => 20,
+            Reply::Unkept => 21,
+            Reply::Elsewhere => 22,
             Reply::Answer(_) | Reply::Joined { .. } => 0,
         }
     }
@@ -65,6 +74,9 @@ impl Reply {
             Reply::NoRole => true,
             Reply::Taken => true,
             Reply::Number => true,
+            Reply::Busy => true,
+            Reply::Unkept => true,
+            Reply::Elsewhere => true,
         }
     }
 
@@ -83,7 +95,8 @@ impl Reply {
         written
     }
 
-    // `write` without the clean-up: when out of memory a part may stand in `out`, which `write` truncates.
+    // `write` without the clean-up: when out of memory a part may stand in `out`, which `write` truncates. Apart, so
+    // that its clause `err` says of all replies at once what `write` truncates.
     fn write_parts(&self, out: &mut Vec<u8>) -> Result<(), AllocError>
         ensures ok { OnOk result
             (AppendsSuch (λ text. SpellsReply text self.now) out.old.items out.new.items) }
@@ -97,6 +110,9 @@ impl Reply {
             Reply::NoRole => out.extend_from_slice(b"refused norole"),
             Reply::Taken => out.extend_from_slice(b"refused taken"),
             Reply::Number => out.extend_from_slice(b"refused number"),
+            Reply::Busy => out.extend_from_slice(b"refused busy"),
+            Reply::Unkept => out.extend_from_slice(b"refused journal"),
+            Reply::Elsewhere => out.extend_from_slice(b"refused elsewhere"),
         }
     }
 }
@@ -205,8 +221,9 @@ fn write_violation(violation: Violation, out: &mut Vec<u8>) -> Result<(), AllocE
     }
 }
 
-// Appends the arguments of `done`: the step's number, and the message that it took, if it took one. When out of memory
-// a part may stand in `out`; the caller truncates it.
+// Appends the arguments of `done`: the step's number, and the message that it took, if it took one. When out of memory a
+// part may stand in `out`; the caller truncates it. Apart, since its contract is by tokens alone: the proof of
+// `append_answer` puts the word in front once, with a message and without.
 #[inline(always)]
 fn write_done(done: &Done, out: &mut Vec<u8>) -> Result<(), AllocError>
     ensures ok { OnOk result (AppendsSuch

@@ -1,4 +1,6 @@
 //! The steps of a log by their keys: which step comes next or before, what a receipt took, and what depends on a step.
+//! Those that only ask the arena have their contracts by a log's value, `Logged`, which has nothing of what an arena
+//! reserved.
 ghost use Rattle.std.specs.Prelude.{◌≡◌, ◌<◌, ◌==◌, ℕ, None, Some, IsSome};
 ghost use Rattle.std.specs.List.{find};
 ghost use Rattle.std.specs.Option.{option_copied, option_map};

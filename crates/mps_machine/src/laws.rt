@@ -28,8 +28,8 @@ pub fn the_rule_is_defined()
 
 /// A law: a role's verdict depends on the place in its own type and on its own incoming queues alone: where two views
 /// agree on these, its acts are allowed alike, fail for the same reason and take the same message, and the views agree
-/// afterwards. What others do changes nothing for it, unless they send it something. So a monitor for each role is
-/// enough.
+/// afterwards; two sessions refuse its steps forward alike, `Full` aside. What others do changes nothing for it, unless
+/// they send it something. So a monitor for each role is enough.
 pub fn a_verdict_is_local()
     ensures violation { (v w : View) (p : ℕ) (act : Act) → LooksAlike p v w
         → violation v p act ≡ violation w p act }

@@ -65,8 +65,8 @@ fn unprojected(protocol: &Protocol, fault: ProjectFault) -> Fault
 }
 
 impl Opening {
-    /// Checks the protocol, and projects it to each of its roles: what all of its sessions share, made once. The first
-    /// fault is returned, and `Memory` only where there is no other; the protocol is dropped then.
+    /// Checks the protocol, and projects it to each of its roles: what all of its sessions share, made once. The error is
+    /// the first fault, or `Memory` where memory ran out before one was found; the protocol is dropped then.
     pub fn of(alloc: Global, protocol: Protocol) -> Result<Opening, Fault>
         ensures protocol { IfOk result (λ opening. opening.protocol ≡ protocol) }
         ensures fault { IfErr result (GivesNoOpening protocol.roles.items (global_type protocol.body)) }

@@ -9,7 +9,7 @@ use Rattle.mps_program.specs.Served.{IsSessionLine, AreSessionLines, AreLinesUpT
 use Rattle.mps_program.specs.Private.Served.{TookOne, TellsPort, IsHubFault, of_serving}
 use Rattle.mps_hub.specs.Serving.{IsServeFaultOf}
 use Rattle.mps_hub.specs.declared.server.ServeFault.{ServeFault}
-use Rattle.mps_hub.specs.declared.server.ServeFault.TheVariants.{Accept as NotAccepted, Memory as OutOfMemory, Unrecorded}
+use Rattle.mps_hub.specs.declared.server.ServeFault.TheVariants.{Accept as NotAccepted, Memory as OutOfMemory, NoneLeft, Unrecorded}
 use Rattle.mps_program.specs.Faults.{after_writes, failed_writes}
 use Rattle.mps_program.specs.declared.faults.ToolFault.{ToolFault}
 use Rattle.mps_program.specs.declared.faults.ToolFault.TheVariants.{Write, Bind, Accept, JournalBroken, Lost, Memory}
@@ -157,11 +157,13 @@ pub serving_hub : (strict : Bool) (first recorded : ℕ) (fault : ServeFault) �
 serving_hub strict first recorded NotAccepted h = tt
 serving_hub strict first recorded OutOfMemory h = tt
 serving_hub strict first recorded (Unrecorded session) h = h.1
+serving_hub strict first recorded NoneLeft h = tt
 
 pub serving_writes : (fault : ServeFault) → failed_writes (of_serving fault) ≡ 0
 serving_writes NotAccepted = refl
 serving_writes OutOfMemory = refl
 serving_writes (Unrecorded session) = refl
+serving_writes NoneLeft = refl
 
 -- a fault that is handed on, and is no failed write
 pub same_writes : {A : Type 0} (r : Result A ToolFault) (e : ToolFault) (before : ℕ) → IsErrAnd r (λ x. x ≡ e) → failed_writes e ≡ 0 → before ≡ after_writes r before

@@ -82,7 +82,8 @@ pub(crate) fn parted(
 }
 
 impl JournalFile {
-    // Writes once, and again where a signal interrupts it.
+    // Writes once, and again where a signal interrupts it. Apart, so that all of its failures, the look at the names
+    // among them, are noted at one place.
     fn write_on(&mut self, buf: &[u8]) -> io::Result<usize>
         ensures { IfOk result (λ count. count ≤ length buf.now) }
     {

@@ -169,6 +169,7 @@ fn unserved<'a>(fault: ServeFault) -> ToolFault<'a>
         ServeFault::Accept => ToolFault::Accept,
         ServeFault::Memory => ToolFault::Memory,
         ServeFault::Unrecorded { session } => ToolFault::JournalBroken { session },
+        ServeFault::NoneLeft => ToolFault::Accept,
     }
 }
 
@@ -225,6 +226,8 @@ where
     };
     match serve_recorded(&serving, &listener, limits) {
         Ok(served) => tell_lost(rt, served.lost, verbose),
+        // the first that was lost is the fault
+        Err(ServeFault::NoneLeft) => {}
         Err(fault) => return Err(unserved(fault)),
     }
     match first_lost(keepers) {

@@ -169,8 +169,9 @@ impl<'c, W: Sink> Sink for Strict<'c, W> {
 
     ghost failed_calls = { λ s. W.failed_calls (inner_of s) + late_of s };
 
-    // Passes on the front of the bytes, one line at most, so that nothing after a refusal is passed on. Once a refusal
-    // was taken whole, each write fails.
+    // Passes on the front of the bytes, one line at most, so that nothing after a refusal is passed on. Where the inner
+    // sink fails, so does this, and nothing is counted of it. Once a refusal was taken whole, each write fails and is
+    // counted as late, and the inner sink isn't called.
     fn write(&mut self, bytes: &[u8]) -> Result<usize, Failed>
         requires { W.failed_calls (inner_of self.old) + late_of self.old < 2 ^ 63 }
         ensures within { WritesAtMost result bytes.now }

@@ -43,7 +43,7 @@ fn taken_front(arena: &Arena, front: Link) -> Link
 }
 
 // The front of a queue after the pair's last receipt is undone: the send before the old front or, where nothing waited,
-// the pair's last send.
+// the pair's last send. Apart from `put_back`, as `taken_front` from `take`.
 fn returned_front(arena: &Arena, last: Option<Key>, front: Link) -> Link
     ensures { result ≡ returned arena.now.keyed_steps last front }
 {
@@ -53,7 +53,8 @@ fn returned_front(arena: &Arena, last: Option<Key>, front: Link) -> Link
     }
 }
 
-// The front of a queue after the pair's last send is undone: none where that send was the front, else as before.
+// The front of a queue after the pair's last send is undone: none where that send was the front, else as before. Apart
+// from `drop_last`, as `taken_front` from `take`.
 fn dropped_front(last: Option<Key>, front: Link) -> Link
     ensures { result ≡ dropped last front }
 {

@@ -59,8 +59,9 @@ pub trait Caller {
     fn kept(&self) -> Option<&Answer>
         ensures { option_map (λ a. a.now) result ≡ kept self.now };
 
-    /// Gives a command that asks for a change, with the next number, `last` + 1. An accepted answer is `kept` under it;
-    /// a refusal changes nothing, so the number may come again.
+    /// Gives a command that asks for a change, with the next number, `last` + 1. An accepted answer is `kept` under
+    /// it. A refusal changes nothing, so the number may come again; it is returned, and an accepted answer isn't,
+    /// since that stays with the caller.
     fn call_next(&mut self, number: u64, command: Command) -> Result<(), Refusal>
         requires next { number ≡ last self.old + 1 }
         requires change { IsSome (change_of command) }

@@ -19,7 +19,8 @@ use mps_session::Gist;
 use std::slice;
 
 // Reserves memory for one more entry, and for the indexes beside it: a new step's, or, for a rollback or a return, each
-// other role's list. The error is `Full` at 100,000 entries, else `Memory`; no entry, step or list is changed.
+// other role's list. The error is `Full` at 100,000 entries, else `Memory`; no entry, step or list is changed. Apart from
+// `change`, so that each `?` leads to one place, where the session's own refusal comes first.
 #[inline(always)]
 fn reserve_entry(
     journal: &mut Vec<NarrowEntry>,
@@ -57,8 +58,9 @@ fn reserve_entry(
     Ok(())
 }
 
-// Updates the indexes beside the journal: a new step's owner and place, or, for a rollback or a return, the lists of
-// the roles that lost steps. Memory was reserved, so it can't fail.
+// Updates the indexes beside the journal: a new step's owner and place, or, for a rollback or a return, the lists of the
+// roles that lost steps. Memory was reserved, so it can't fail. Apart from `keep`, as the choice by the command: its arms
+// change different lists.
 #[inline(always)]
 fn note(
     steps: &mut Steps,
@@ -93,8 +95,8 @@ fn note(
     }
 }
 
-// Appends the entry of an accepted command, and updates the indexes beside the journal. Memory was reserved, so it
-// can't fail.
+// Appends the entry of an accepted command, and updates the indexes beside the journal. Memory was reserved, so it can't
+// fail. Apart from `change`, whose proof goes on from its clauses.
 #[inline(always)]
 fn keep(
     journal: &mut Vec<NarrowEntry>,

@@ -190,8 +190,9 @@ fn push_form(journal: &mut Vec<NarrowEntry>, form: Form)
     journal.push_reserved(NarrowEntry { form });
 }
 
-// `NarrowEntry::push` for a new step. `sent_at` is the place of the entry that sent the message: a receipt and a pick
-// have one, other steps none.
+// `NarrowEntry::push` for a new step. `sent_at` is the place of the entry that sent the message: a receipt and a pick have
+// one, other steps none. Apart, so that its six arms are proved under `TakesSuch` alone, which is what `Fits` says of a
+// step.
 #[inline(always)]
 fn push_step(
     journal: &mut Vec<NarrowEntry>,

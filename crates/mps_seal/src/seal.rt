@@ -103,8 +103,9 @@ impl Seal {
         }
     }
 
-    /// The line without its seal, and that seal, where `line` ends with the one that is due after this seal; else
-    /// `None`: the line, or one before it, was changed. O(line); it does not allocate.
+    /// The line, which comes without its LF, less its seal, and that seal, by which the next line is read; `None` where it
+    /// doesn't end with the seal that is due after this one, as a line that was changed or cut, that follows a changed
+    /// one, or that is of another journal. O(line); it does not allocate.
     pub fn read<'l>(&self, line: &'l [u8]) -> Option<(&'l [u8], Seal)>
         ensures some { IfSome result (λ r. line.now ≡ sealed self.now r.0.now) }
         ensures next { IfSome result (λ r. r.1 ≡ next_seal self.now r.0.now) }

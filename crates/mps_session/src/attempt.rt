@@ -15,7 +15,8 @@ use mps_base::{Role, StepId};
 use mps_command::{Answer, Command, Done, Refusal, StepIds};
 
 // The answer and the gist of a new step: the gist names the step whose message was taken, in place of a copy of the
-// message.
+// message. Apart, as `undid` and `took_back`: each arm of `attempt` has its clauses `gist`, `sent` and `kind` from its
+// own.
 #[inline(always)]
 fn stepped(told: (Done, Option<StepId>)) -> (Answer, Gist)
     ensures answer { result.0 ≡ machine.stepped (Ok told.0) }
@@ -31,7 +32,7 @@ fn stepped(told: (Done, Option<StepId>)) -> (Answer, Gist)
     (Answer::Done(done), gist)
 }
 
-// The answer and the gist of an undo: the number of the one step. It does not allocate.
+// The answer and the gist of an undo: the number of the one step. It does not allocate. Apart, as `stepped`.
 #[inline(always)]
 fn undid(id: StepId, told: StepIds) -> (Answer, Gist)
     ensures answer { result.0 ≡ machine.removed (Ok told) }

@@ -81,8 +81,8 @@ pub fn open_types(alloc: Global, types: Vec<Local>) -> Result<Session, AllocErro
 }
 
 /// A session of the protocol before its first step: the protocol is checked, and each role's type is its projection.
-/// The first fault is named, and `Memory` only where there is no other. No command is ever refused with `Mismatch`
-/// there.
+/// The error is the first fault, or `Memory` where memory ran out before one was found. No command is ever refused with
+/// `Mismatch` there.
 pub fn open_protocol(alloc: Global, protocol: &Protocol) -> Result<Session, ProtocolFault>
     ensures faultless { OnOk result
         (fault_of protocol.now.roles.items (global_type protocol.now.body) ≡ None) }

@@ -120,7 +120,8 @@ impl Session {
         Ok(())
     }
 
-    /// `undo` with the number as a list, the form in which all changes are answered. It does not allocate.
+    /// `undo` with the number as a list, the form in which all changes are answered. It does not allocate. It has the
+    /// clause `served`, as `attempt_forward` has, so that `attempt` is proved alike in its arms.
     #[inline(always)]
     pub(crate) fn attempt_undo(&mut self, role: Role, id: StepId) -> Result<StepIds, Refusal>
         requires { role < length self.old.types }

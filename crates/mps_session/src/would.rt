@@ -48,7 +48,8 @@ impl Session {
         }
     }
 
-    // `would` for an undo: all of its refusals, since an undo needs no memory.
+    // `would` for an undo: all of its refusals, since an undo needs no memory. Apart, as the other three, each of one
+    // `Change`.
     fn would_undo(&self, role: Role, id: StepId) -> Result<(), Refusal>
         requires { role < length self.now.types }
         ensures { result_err result ≡ refusal_in

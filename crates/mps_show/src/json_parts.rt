@@ -203,7 +203,8 @@ fn push_mark(alloc: Global, mark: &Name, parts: &mut Vec<Json>) -> Result<(), Al
     Ok(())
 }
 
-// Appends to a step's array the word `commit`, which has no arguments. It fails only when out of memory.
+// Appends to a step's array the word `commit`, which has no arguments. It fails only when out of memory. Apart, as each
+// act has its function.
 fn push_commit(alloc: Global, parts: &mut Vec<Json>) -> Result<(), AllocError>
     ensures { OnOk result (map view parts.new.items
         ≡ map view parts.old.items ++ string (codes "commit") ∷ []) }

@@ -29,7 +29,8 @@ pub fn show(alloc: Global, names: &Roles, session: &Session) -> Result<Json, All
     json!(in alloc; {"history": history, "queues": queues, "roles": roles})
 }
 
-// Makes a JSON array of the surviving steps in order, each with its message. It fails only when out of memory.
+// Makes a JSON array of the surviving steps in order, each as `json_parts::step` makes it, with the message that it gave
+// or took. It fails only when out of memory; what was made is dropped then.
 fn history(alloc: Global, names: &Roles, session: &Session) -> Result<Json, AllocError>
     requires { length names.now ≡ length session.now.types }
     ensures { IfOk result (λ v. view v ≡ row (map (step_shown names.now) (moves_of session.now))) }

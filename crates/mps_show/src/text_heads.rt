@@ -38,7 +38,8 @@ pub(crate) fn put_head(
     }
 }
 
-// Appends `end`: the role's type has ended. It fails only when out of memory, and appends nothing then.
+// Appends `end`: the role's type has ended. It fails only when out of memory, and appends nothing then. Apart, as the
+// other heads, each with the clauses `text` and `plain`.
 fn put_end(out: &mut Vec<u8>) -> Result<(), AllocError>
     ensures text { OnOk result (out.new.items ≡ out.old.items ++ codes "end") }
     ensures plain { OnOk result (AllByRecursion IsPlainByte (codes "end")) }

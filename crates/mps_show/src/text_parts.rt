@@ -249,8 +249,8 @@ fn put_mark(out: &mut Vec<u8>, mark: &Name) -> Result<(), AllocError>
     Ok(out.push(b']')?)
 }
 
-// Appends the rest of a step's array for a commit: the word and the bracket. It fails only when out of memory, and
-// appends nothing then.
+// Appends the rest of a step's array for a commit: the word and the bracket. It fails only when out of memory, and appends
+// nothing then. Apart, since its proof alone is given the lemma `words_stand`.
 #[tactic(auto, using(crate::proofs::Texts::words_stand))]
 fn put_commit(out: &mut Vec<u8>) -> Result<(), AllocError>
     ensures text { OnOk result (out.new.items

@@ -88,7 +88,8 @@ impl Store {
     }
 
     // The place of a known name in a store of at most 8 names, found without a hash; `None` for a larger store too, so
-    // it doesn't say that the name is unknown.
+    // it doesn't say that the name is unknown. Apart from `bind`, so that a large store and an unknown name go on
+    // alike, by the hash.
     fn place_among_few(&self, name: &Name) -> Option<usize>
         ensures { IfSome result (λ place. position (bytes_eq name.now) (keys_of self.now) ≡ Some place) }
     {
@@ -100,7 +101,7 @@ impl Store {
     }
 
     // Binds the name at that place to the key, and returns the old key. It does not allocate; `None`, and no change,
-    // where there is no such place.
+    // where there is no such place. Apart, since its contract is by the place, and not by the name.
     fn rebind(&mut self, place: usize, key: Key) -> Option<Key>
         ensures older { result ≡ slice_get (values_of self.old) place }
         ensures rebound { self.new ≡ set_value_at self.old place key }

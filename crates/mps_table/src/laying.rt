@@ -19,7 +19,7 @@ enum Bound<'a> {
     Inside(&'a [u8], Node, &'a Bound<'a>),
 }
 
-/// The lists of a table, as far as they are made.
+/// The lists of a table, as far as they are made. A `Table` is sound at any moment, and these only when all rows are laid.
 #[derive(Drop)]
 pub(crate) struct Draft {
     pub(crate) rows: Vec<TableRow>,

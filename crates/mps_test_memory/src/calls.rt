@@ -384,7 +384,7 @@ fn rolled_back(session: &mut Session, untried: &Session, until: Until) -> Option
     }
 }
 
-// The same with two sessions of this protocol.
+// Rolls the first step back in a session of this protocol, beside one in which that is never tried.
 fn rolls_back_one(alloc: Global, protocol: &Protocol, until: Until) -> Option<Outcome> {
     let mut session = relayed(alloc, protocol)?;
     let untried = relayed(alloc, protocol)?;

@@ -298,7 +298,7 @@ fn judged<P: Party, Q: Party>(
     }
 }
 
-// The same, with what the second is answered.
+// What it comes to that the first is answered so: the second is asked too, with ample memory.
 fn judged_beside<P: Party, Q: Party>(
     alloc: Global,
     names: &Roles,
@@ -333,7 +333,7 @@ fn compared_at<P: Party, Q: Party>(
     judged_beside(alloc, names, line, before, until, (first, &answer), second)
 }
 
-// The same for the row.
+// Has both do the row's lines, asks the first for the row's command, and compares it with the second.
 fn compared_by<P: Party, Q: Party>(
     alloc: Global,
     names: &Roles,

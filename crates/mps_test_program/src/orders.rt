@@ -154,12 +154,16 @@ const ORDERS: &[Words] = &[
     ),
 ];
 
-// `mps_words::order` reads each command with its options, and refuses words that are none.
+// `mps_words::order` reads each command, with its options but for a server's `--sync`, `--strict` and `--idle`, and
+// refuses words that are none.
 #[test]
 fn words_become_an_order_or_are_refused(rt: HostRuntime) -> Result<(), Fail> {
     for Words(words, want) in ORDERS {
         let found = ordered(rt.alloc(), words)?;
-        assert!(rt; found.as_str().starts_with(want), "{found} for {words:?}");
+        assert!(rt;
+            found.as_str().starts_with(want),
+            "{words:?}: found {found}, wanted {want} in front"
+        );
     }
     Ok(())
 }

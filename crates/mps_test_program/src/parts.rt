@@ -90,15 +90,16 @@ fn plays(rt: &impl Abort, alloc: Global, scripts: &[Script]) -> Result<(), Fail>
         assert_eq!(rt;
             found.as_slice(),
             want.as_bytes(),
-            "the answers to {script}"
+            "the answers to {script:?}"
         );
     }
     Ok(())
 }
 
-// `mps_program::load_opening` gives a session that answers a script by `replay_session`, as `mps_tool run` does.
+// `mps_program::load_opening` reads, checks and projects a protocol. The session of its `Opening` answers scripts by
+// `replay_session`, as that of `mps_tool run` does.
 #[test]
-fn a_loaded_session_answers_its_scripts(rt: HostRuntime) -> Result<(), Fail> {
+fn a_session_of_a_loaded_protocol_answers_scripts(rt: HostRuntime) -> Result<(), Fail> {
     plays(&rt, rt.alloc(), SCRIPTS)
 }
 
@@ -118,7 +119,7 @@ fn tells(alloc: Global, fault: &ToolFault<'_>, line: &str, code: u8) -> Result<b
 // `mps_program::fault_line` and `Display` tell these faults as FORMATS says, each with its `status`. `a b` and 12 stand
 // for any.
 #[test]
-fn each_fault_has_its_line_and_status(rt: HostRuntime) -> Result<(), Fail> {
+fn nine_faults_have_their_lines_and_statuses(rt: HostRuntime) -> Result<(), Fail> {
     let faults = [
         (
             ToolFault::File {
@@ -299,7 +300,7 @@ const REFUSED: &[(&str, &str)] = &[
     ("roles a a ; end", "refused protocol doublerole"),
 ];
 
-// `mps_program::load_opening` gives no session of a protocol with a fault, and tells the first fault.
+// `mps_program::load_opening` gives no session of a protocol with a fault, and tells the fault.
 #[test]
 fn a_protocol_with_a_fault_gives_no_session(rt: HostRuntime) -> Result<(), Fail> {
     gives(&rt, rt.alloc(), Had::Session, REFUSED)
@@ -454,7 +455,7 @@ fn a_protocol_with_a_fault_shows_no_types(rt: HostRuntime) -> Result<(), Fail> {
     gives(&rt, rt.alloc(), Had::Lines, WITHOUT_TYPES)
 }
 
-// `mps_program::read_text` reads a text to its end, whatever pieces it comes in.
+// `mps_program::read_text` reads a text to its end, here one in two pieces.
 #[test]
 fn a_text_in_two_pieces_is_read_to_its_end(rt: HostRuntime) -> Result<(), Fail> {
     let mut reader = Pieces::new(halves(rt.alloc(), "roles a b ; end")?, None);
@@ -591,14 +592,14 @@ fn scripts_are_the_same_where_each_role_did_the_same(rt: HostRuntime) -> Result<
         assert_eq!(rt;
             line.as_slice(),
             scripts.4.as_bytes(),
-            "the verdict on {} and {}",
+            "the verdict on {:?} and {:?}",
             scripts.0,
             scripts.1
         );
         assert_eq!(rt;
             code,
             scripts.5,
-            "the status for {} and {}",
+            "the status for {:?} and {:?}",
             scripts.0, scripts.1
         );
     }
@@ -620,12 +621,12 @@ fn a_file_that_does_not_open_is_named(rt: HostRuntime) -> Result<(), Fail> {
     let found = open_file(&rt, "no such file").err();
     assert!(rt;
         names_no_file(rt.alloc(), found)?,
-        "the fault of open_file, status 2"
+        "open_file: wanted `refused file no such file`, status 2"
     );
     let found = check_file(&rt, "no such file").err();
     assert!(rt;
         names_no_file(rt.alloc(), found)?,
-        "the fault of check_file, status 2"
+        "check_file: wanted `refused file no such file`, status 2"
     );
     Ok(())
 }
@@ -636,12 +637,12 @@ fn a_protocol_that_does_not_open_is_named_first(rt: HostRuntime) -> Result<(), F
     let found = run_file(&rt, "no such file", "no such script", true, false).err();
     assert!(rt;
         names_no_file(rt.alloc(), found)?,
-        "the fault of run_file, status 2"
+        "run_file: wanted `refused file no such file`, status 2"
     );
     let found = compare_files(&rt, "no such file", "no such script", "nor this", false).err();
     assert!(rt;
         names_no_file(rt.alloc(), found)?,
-        "the fault of compare_files, status 2"
+        "compare_files: wanted `refused file no such file`, status 2"
     );
     Ok(())
 }

@@ -250,28 +250,28 @@ fn run_rows(rt: &impl Abort, alloc: Global, rows: &[Row]) -> Result<(), Fail> {
         assert_eq!(rt;
             found.as_slice(),
             want.as_bytes(),
-            "the answers to {script}"
+            "the answers to {script:?}"
         );
     }
     Ok(())
 }
 
-// `mps_tool run` answers `undo`, which takes a role's own step back on which no other depends, and is else refused with
-// the reason.
+// `mps_wire::script::replay_session` on a session of `load_opening` (`parts::answers`), as in `mps_tool run`: `undo`
+// takes a role's own step back on which no other depends, and is else refused with the reason.
 #[test]
 fn undo_takes_back_a_step_on_which_none_depends(rt: HostRuntime) -> Result<(), Fail> {
     run_rows(&rt, rt.alloc(), UNDOS)
 }
 
-// `mps_tool run` answers `news`, which tells a role which of its steps others took back, and `show` shows the session,
-// its JSON written out by hand.
+// `mps_wire::script::replay_session` on a session of `load_opening` (`parts::answers`), as in `mps_tool run`: `news`
+// tells a role which of its steps others took back, and `show` shows the session, its JSON written out by hand.
 #[test]
 fn news_tell_what_others_took_back_and_show_shows_it(rt: HostRuntime) -> Result<(), Fail> {
     run_rows(&rt, rt.alloc(), QUESTIONS)
 }
 
-// `mps_tool run` answers `rollback` and `back`, which take a step back with all that depend on it, newest first, and
-// nothing else.
+// `mps_wire::script::replay_session` on a session of `load_opening` (`parts::answers`), as in `mps_tool run`:
+// `rollback` and `back` take a step back with all that depend on it, newest first, and nothing else.
 #[test]
 fn rollback_and_back_take_back_what_depends_on_a_step(rt: HostRuntime) -> Result<(), Fail> {
     run_rows(&rt, rt.alloc(), ROLLBACKS)

@@ -550,45 +550,51 @@ fn run_shown(rt: &impl Abort, alloc: Global, show: &str, rows: &[Row]) -> Result
         assert_eq!(rt;
             found.as_slice(),
             want.as_bytes(),
-            "the answers to {script}"
+            "the answers to {script:?}"
         );
     }
     Ok(())
 }
 
-// `mps_tool run` answers `show` of a, the first role, after each line of the relay's scripts.
+// `mps_wire::script::replay_session`, by which `mps_tool run` answers: a, the first role, is shown the session after
+// each line of the relay's scripts.
 #[test]
 fn the_first_role_is_shown_a_relay(rt: HostRuntime) -> Result<(), Fail> {
     run_shown(&rt, rt.alloc(), "a show", RELAYS)
 }
 
-// `mps_tool run` answers `show` of c, the last role, alike: what is shown doesn't depend on who asks.
+// `mps_wire::script::replay_session`, by which `mps_tool run` answers: after each line of the relay's scripts c, the
+// last role, is shown what a is in the test before, since what is shown doesn't depend on who asks.
 #[test]
-fn the_last_role_is_shown_the_same_relay(rt: HostRuntime) -> Result<(), Fail> {
+fn the_last_role_is_shown_what_the_first_is(rt: HostRuntime) -> Result<(), Fail> {
     run_shown(&rt, rt.alloc(), "c show", RELAYS)
 }
 
-// `mps_tool run` answers `show` of b, who stands in the middle, after each line of a relay without a choice.
+// `mps_wire::script::replay_session`, by which `mps_tool run` answers: b, who stands in the middle, is shown the
+// session after each line of a relay without a choice.
 #[test]
 fn a_role_in_the_middle_is_shown_what_is_handed_on(rt: HostRuntime) -> Result<(), Fail> {
     run_shown(&rt, rt.alloc(), "b show", HANDINGS)
 }
 
-// `mps_tool run` answers `show` of d, who does nothing, after each line of what the others do.
+// `mps_wire::script::replay_session`, by which `mps_tool run` answers: d, who does nothing, is shown the session after
+// each line of what a and c do.
 #[test]
 fn a_role_that_does_nothing_is_shown_what_others_do(rt: HostRuntime) -> Result<(), Fail> {
     run_shown(&rt, rt.alloc(), "d show", TWO_PAIRS)
 }
 
-// `mps_tool run` answers `show` of a, who sends, after each line of the loop's scripts.
+// `mps_wire::script::replay_session`, by which `mps_tool run` answers: a, who sends, is shown the session after each
+// line of the loop's scripts.
 #[test]
 fn the_sender_in_a_loop_is_shown_the_session(rt: HostRuntime) -> Result<(), Fail> {
     run_shown(&rt, rt.alloc(), "a show", LOOPS)
 }
 
-// `mps_tool run` answers `show` of b, who receives, alike: what is shown doesn't depend on who asks.
+// `mps_wire::script::replay_session`, by which `mps_tool run` answers: after each line of the loop's scripts b, who
+// receives, is shown what a is in the test before, since what is shown doesn't depend on who asks.
 #[test]
-fn the_receiver_in_a_loop_is_shown_the_same_session(rt: HostRuntime) -> Result<(), Fail> {
+fn the_receiver_in_a_loop_is_shown_what_the_sender_is(rt: HostRuntime) -> Result<(), Fail> {
     run_shown(&rt, rt.alloc(), "b show", LOOPS)
 }
 
@@ -621,8 +627,8 @@ fn fill(alloc: Global, script: &mut String, want: &mut String) -> Result<(), All
     want.push_str("done 50000\ndone 50001\n")
 }
 
-// `mps_tool run`: a room with 100,000 entries refuses what it would accept as full, and still tells news and shows the
-// session.
+// `mps_wire::script::replay_session`, by which `mps_tool run` answers: a room with 100,000 entries refuses what it
+// would accept as full, and still tells news and shows the session.
 #[test]
 fn a_full_session_is_still_shown(rt: HostRuntime) -> Result<(), Fail> {
     let (mut script, mut want) = (String::new(rt.alloc()), String::new(rt.alloc()));

@@ -222,7 +222,7 @@ const LOOPS_AND_CHOICES: &[Row] = &[
     ),
 ];
 
-// Steps taken back and done again get new numbers.
+// On the ring: steps that are taken back and done again get new numbers; and an undo in a last line without an LF.
 const TAKEN_BACK: &[Row] = &[
     Row(
         &["mps_tool", "run", "ring", "again"],
@@ -550,15 +550,16 @@ fn a_strict_run_ends_with_the_first_refused_line(rt: HostRuntime) {
     plays(&rt, rt.alloc(), STRICT)
 }
 
-// `mps_tool run` answers each line, refused ones too, in order.
+// `mps_tool run` answers each line, refused ones too, in order: of a loop with a choice, of a choice without a loop,
+// and of a loop without a choice.
 #[test]
-fn run_answers_each_line_of_a_loop_with_a_choice(rt: HostRuntime) {
+fn run_answers_each_line_of_loops_and_choices(rt: HostRuntime) {
     plays(&rt, rt.alloc(), LOOPS_AND_CHOICES)
 }
 
-// `mps_tool run` answers rollbacks and undos, also in a last line without an LF.
+// `mps_tool run` answers a rollback, and an undo in a last line without an LF.
 #[test]
-fn run_answers_rollbacks_and_undos_in_a_loop(rt: HostRuntime) {
+fn run_answers_a_rollback_and_an_undo(rt: HostRuntime) {
     plays(&rt, rt.alloc(), TAKEN_BACK)
 }
 
@@ -592,7 +593,7 @@ fn version_is_printed_with_status_0(rt: HostRuntime) {
     plays(&rt, rt.alloc(), VERSIONS)
 }
 
-// `mps_tool check` prints a line for each role, or tells the first fault, with its status.
+// `mps_tool check` prints a line for each role, or tells the fault, with its status.
 #[test]
 fn check_prints_the_type_of_each_role_or_the_fault(rt: HostRuntime) {
     plays(&rt, rt.alloc(), CHECKS)

@@ -63,7 +63,7 @@ fn call_of<R: Wait>(
     }
 }
 
-// The same by a try of a free cell.
+// What the line is answered by a try of its role's pass, where the cell is free.
 fn try_of(alloc: Global, all: &mut [Pass<'_>], line: &str) -> Result<Answer, Fail> {
     let (place, command) = asked_of(alloc, all, line)?;
     match all.get_mut(place) {
@@ -81,7 +81,7 @@ fn is_called<R: Wait>(rt: &R, alloc: Global, all: &mut [Pass<'_>], row: Row) -> 
     Ok(told(alloc, &answer)?.as_str() == row.1)
 }
 
-// The same by a try of a free cell.
+// Whether the row is answered as it says, by a try of its role's pass, where the cell is free.
 fn is_tried(alloc: Global, all: &mut [Pass<'_>], row: Row) -> Result<bool, Fail> {
     let answer = try_of(alloc, all, row.0)?;
     Ok(told(alloc, &answer)?.as_str() == row.1)
@@ -97,7 +97,7 @@ fn are_called<R: Wait>(rt: &R, alloc: Global, all: &mut [Pass<'_>]) -> Result<()
     Ok(())
 }
 
-// The same by tries of a free cell.
+// Each row is answered as it says by a try of a free cell, one after the other, or its line is the failure.
 fn are_tried(alloc: Global, all: &mut [Pass<'_>]) -> Result<(), Fail> {
     for row in UNDONE {
         if !is_tried(alloc, all, *row)? {
@@ -160,7 +160,8 @@ fn has_given(cell: &mut Cell) -> bool {
     matches!(cell.passes(), Err(PassFault::Given))
 }
 
-// `mps_cell::Cell::passes` gives a pass for each of the four roles, in order, and ever after says that they were given.
+// `mps_cell::Cell::passes` gives a pass for each of the four roles, in order, and says to two further calls that they
+// were given.
 #[test]
 fn a_cell_gives_its_passes_once(rt: HostRuntime) -> Result<(), Fail> {
     let mut cell = cell(rt.alloc(), TWO_PAIRS)?;
@@ -355,7 +356,7 @@ struct Probe<'a, 'b> {
     // how often the pause ran
     pauses: u64,
     length: u64,
-    // how many of a thousand further lengths were the same
+    // how many of a thousand further lengths were equal to it
     same: u64,
     busy: Option<u64>,
 }
@@ -725,7 +726,7 @@ fn overlapped<R: Threads + Wait + Clock + Sync>(
     )
 }
 
-// The same after a's send, of which c is told nothing.
+// a's mark and c's, in two threads, after a's send, of which c is told nothing.
 fn overlapped_after_a_send<R: Threads + Wait + Clock + Sync>(
     rt: &R,
     all: Vec<Pass<'_>>,

@@ -60,7 +60,7 @@ fn goes_by_numbers<A: Abort, R: Wait>(
     let undone = undone_text(alloc, caller)?;
     assert!(rt;
         undone.as_str() == "undone 1",
-        "the undo: {undone} for undone 1"
+        "the undo: found {undone}, wanted undone 1"
     );
     assert_eq!(rt; caller.last(), 3, "the newest number after the undo");
     Ok(())

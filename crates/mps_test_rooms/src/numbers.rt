@@ -14,7 +14,7 @@ fn stand(rt: &impl Abort, numbers: &Numbers, rows: &[(u64, Position)]) {
         let found = Position::of(numbers.last(), *number);
         assert!(rt;
             found == *position,
-            "the position of number {number}: {found:?} for {position:?}"
+            "the position of number {number}: found {found:?}, wanted {position:?}"
         );
     }
 }
@@ -76,7 +76,7 @@ fn numbered<C: Caller>(alloc: Global, caller: &mut C, line: &str) -> Result<Told
     }
 }
 
-// The same in words.
+// What comes of a line with its number, in words.
 fn came_text<C: Caller>(alloc: Global, caller: &mut C, line: &str) -> Result<String, Fail> {
     let came = numbered(alloc, caller, line)?;
     Ok(format!(in alloc; "{came:?}")?)
@@ -102,12 +102,15 @@ fn is_numbered<A: Abort, C: Caller>(
 ) -> Result<(), Fail> {
     let (line, comes, last, keeps) = row;
     let came = came_text(alloc, caller, line)?;
-    assert!(rt; came.as_str() == comes, "{line}: {came} for {comes}");
+    assert!(rt;
+        came.as_str() == comes,
+        "{line}: found {came}, wanted {comes}"
+    );
     assert_eq!(rt; caller.last(), last, "the newest number after {line}");
     let kept = kept_text(alloc, caller)?;
     assert!(rt;
         kept.as_str() == keeps,
-        "kept after {line}: {kept} for {keeps}"
+        "kept after {line}: found {kept}, wanted {keeps}"
     );
     Ok(())
 }
@@ -166,7 +169,10 @@ fn goes_by_numbers(rt: &impl Abort, alloc: Global, solo: &mut Solo) -> Result<()
     are_numbered(rt, alloc, solo, NUMBERED)?;
     assert_eq!(rt; solo.room.entries(), 5, "the count of entries");
     let told = news(alloc, solo)?;
-    assert!(rt; told.as_str() == "news 5", "the news: {told} for news 5");
+    assert!(rt;
+        told.as_str() == "news 5",
+        "the news: found {told}, wanted news 5"
+    );
     assert_eq!(rt; solo.last(), 5, "the newest number after the news");
     assert_eq!(rt; solo.roles().count(), 3, "the count of roles");
     Ok(())

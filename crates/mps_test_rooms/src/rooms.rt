@@ -9,7 +9,7 @@ use std::test::Fail;
 // a gives b ints in a loop.
 const INTS: &str = "roles a b ; rec X . a -> b : int . X";
 
-// The same with texts.
+// a gives b texts in a loop.
 const TEXTS: &str = "roles a b ; rec X . a -> b : text . X";
 
 // ---- rows
@@ -44,7 +44,7 @@ fn text_of(alloc: Global, entry: &Entry) -> Result<String, Fail> {
     entry_text(alloc, entry.role, &entry.command, answer.as_str())
 }
 
-// The same by its place from 0.
+// The entry at that place, from 0, in words.
 fn text_at(alloc: Global, room: &Room, place: u64) -> Result<String, Fail> {
     match room.entry(place)? {
         Some(entry) => text_of(alloc, &entry),
@@ -91,7 +91,7 @@ fn is_wanted(alloc: Global, answer: &Answer, row: Row) -> Result<(), Fail> {
     if text.as_str() == wanted {
         Ok(())
     } else {
-        Err(format!(in alloc; "{line}: {text}, and not {wanted}")?.into())
+        Err(format!(in alloc; "{line}: found {text}, wanted {wanted}")?.into())
     }
 }
 
@@ -148,7 +148,7 @@ fn play(alloc: Global, room: &mut Room, rows: &[Row]) -> Result<(), Fail> {
     Ok(())
 }
 
-// The same in a new room of the protocol.
+// The rows are played one after the other in a new room of the protocol.
 fn play_anew(alloc: Global, protocol: &str, rows: &[Row]) -> Result<(), Fail> {
     let mut room = room(alloc, protocol)?;
     play(alloc, &mut room, rows)
@@ -220,7 +220,7 @@ const UNDONE: &[Row] = &[
 const SENT: &str =
     r#"{"history":[[1,"a","send","b",5]],"queues":[["a","b",[5]]],"roles":[{"expects":"pick c ok no","past":[1],"role":"a","store":[]},{"expects":"recv a int","past":[],"role":"b","store":[]},{"expects":"recv b int","past":[],"role":"c","store":[]}]}"#;
 
-// The same after b's receipt.
+// The session after b's receipt, as it is shown.
 const RECEIVED: &str =
     r#"{"history":[[1,"a","send","b",5],[2,"b","recv","a","x",5]],"queues":[],"roles":[{"expects":"pick c ok no","past":[1],"role":"a","store":[]},{"expects":"send c int","past":[2],"role":"b","store":[["x",5]]},{"expects":"recv b int","past":[],"role":"c","store":[]}]}"#;
 
@@ -513,7 +513,7 @@ fn shown_text(alloc: Global, room: &mut Room) -> Result<String, Fail> {
     told(alloc, &answer)
 }
 
-// The same as a value.
+// The text of the value that shows the session.
 fn value_text(alloc: Global, room: &Room) -> Result<String, Fail> {
     Ok(room.show()?.to_string(alloc)?)
 }

@@ -58,7 +58,9 @@ fn is_written(alloc: Global, written: &str, wanted: &str) -> Result<(), Fail> {
     if written.strip_prefix("> ") == Some(wanted) {
         Ok(())
     } else {
-        Err(format!(in alloc; "{written} for {wanted}")?.into())
+        Err(format!(in alloc;
+            "write_show after 2 other bytes: found {written}, wanted {wanted} behind them"
+        )?.into())
     }
 }
 
@@ -69,7 +71,7 @@ fn shows(alloc: Global, names: &Roles, session: &Session, wanted: &str) -> Resul
     if value.as_str() == wanted {
         Ok(())
     } else {
-        Err(format!(in alloc; "the value {value} for {wanted}")?.into())
+        Err(format!(in alloc; "show: found {value}, wanted {wanted}")?.into())
     }
 }
 
@@ -84,13 +86,14 @@ fn plays(alloc: Global, names: &Roles, session: &mut Session, rows: &[Row]) -> R
     Ok(())
 }
 
-// The same in a new session of the protocol.
+// Whether each row comes out as it is wanted, one after the other in a new session of the protocol.
 fn plays_anew(alloc: Global, protocol: &str, rows: &[Row]) -> Result<(), Fail> {
     let (names, mut session) = opened(alloc, protocol)?;
     plays(alloc, &names, &mut session, rows)
 }
 
-// The session before the first step, and after each line.
+// The session of VERDICT (a gives b an int, b gives c one, c tells a `ok` or `no`) before the first step, and after
+// each row's lines.
 const RELAY: &[Row] = &[
     (
         &[],
@@ -120,7 +123,7 @@ const RELAY: &[Row] = &[
 
 // `mps_show::write_show` and `show` give the history, what waits, and of each role what it expects, did and keeps.
 #[test]
-fn a_relay_is_shown_with_its_history_and_queues(rt: HostRuntime) -> Result<(), Fail> {
+fn a_relay_is_shown_with_history_queues_and_roles(rt: HostRuntime) -> Result<(), Fail> {
     plays_anew(rt.alloc(), VERDICT, RELAY)
 }
 
@@ -271,8 +274,8 @@ const EIGHT: &[Row] = &[(
     r#"{"history":[[1,"c","send","b",3],[2,"a","send","h",1],[3,"a","send","c",2],[4,"g","mark","m"],[5,"b","send","a",4]],"queues":[["a","c",[2]],["a","h",[1]],["b","a",[4]],["c","b",[3]]],"roles":[{"expects":"end","past":[2,3],"role":"a","store":[]},{"expects":"end","past":[5],"role":"b","store":[]},{"expects":"end","past":[1],"role":"c","store":[]},{"expects":"end","past":[],"role":"d","store":[]},{"expects":"end","past":[],"role":"e","store":[]},{"expects":"end","past":[],"role":"f","store":[]},{"expects":"end","past":[4],"role":"g","store":[]},{"expects":"recv a bool","past":[],"role":"h","store":[]}]}"#,
 )];
 
-// `mps_show::write_show` and `show` of the most roles, 8: each has its row, also if it did nothing, and queues have
-// their order.
+// `mps_show::write_show` and `show` of the most roles, 8: each has its row, also if it did nothing, and queues stand in
+// the order of senders and then of receivers.
 #[test]
 fn each_of_eight_roles_is_shown(rt: HostRuntime) -> Result<(), Fail> {
     let alloc = rt.alloc();

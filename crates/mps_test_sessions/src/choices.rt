@@ -106,7 +106,7 @@ fn shows(rt: &impl Abort, session: &Session, place: u8, wanted: &Shown<'_>) {
             && peer.is(Role::new(wanted.1))
             && sort == wanted.2
             && are_labels(labels, wanted.3),
-        "the role at place {place}: {word} {peer:?} {sort:?} {labels:?} for {wanted:?}"
+        "the role at place {place}: found {word} {peer:?} {sort:?} {labels:?}, wanted {wanted:?}"
     );
 }
 

@@ -320,7 +320,7 @@ const COMMITS: &[(&[Deed], u64, u64)] = &[
     (SETTLED, 10, 10),
 ];
 
-// The same after these deeds.
+// The least commit among the step and all that depend on it, after these deeds; 0 where there is none.
 fn least_commit(rt: &(impl Abort + AllocGlobal), deeds: &[Deed], number: u64) -> u64 {
     let mut arena = play(rt, deeds);
     least_from(rt, &mut arena, number)

@@ -126,7 +126,7 @@ fn the_gist_of_a_rollback_lists_the_steps_newest_first(rt: HostRuntime) {
 }
 
 // `mps_session::Session::attempt`: the gist of a return lists the steps, newest first. Here these are 5, 4, 3 and 2,
-// since the mark 1 stays.
+// since the mark 1 stays, so four of which the first is 5.
 #[test]
 fn the_gist_of_a_return_leaves_the_mark(rt: HostRuntime) {
     let mut session = relayed(&rt);

@@ -373,7 +373,7 @@ const WORKED_LINKS: &[(u64, Option<[u64; 8]>)] = &[
     (10, None),
 ];
 
-// The same after steps 7, 9, 6 and 8 are taken out, in this order.
+// Each number, and what its step is linked to after steps 7, 9, 6 and 8 are taken out, in this order.
 const LEFT_LINKS: &[(u64, Option<[u64; 8]>)] = &[
     (1, Some([2, 0, 2, 0, 2, 0, 3, 0])),
     (2, Some([3, 1, 4, 1, 0, 1, 0, 0])),

@@ -104,8 +104,7 @@ const RELAYED: &[Line] = &[
     Asks(A, Ask::Pick(C), "6 ok"),
 ];
 
-// `mps_session::open_protocol` gives a new session in which each role's type is its projection: it can do its part to
-// the end.
+// `mps_session::open_protocol` gives a new session, in which each role can do its part of `relay` to the end.
 #[test]
 fn each_role_of_an_opened_protocol_can_reach_its_end(rt: HostRuntime) {
     plays(&rt, &["a", "b", "c"], relay(&rt), RELAYED);
@@ -156,7 +155,7 @@ fn told_to_one(rt: &(impl Abort + AllocGlobal)) -> Global {
     choice(rt, "a", "b", &["r", "l"], told)
 }
 
-// The same behind a choice in that choice, which b tells a.
+// An int from a to c behind the last of two labels, which b tells a behind the last of two that a tells b.
 fn told_behind_two(rt: &(impl Abort + AllocGlobal)) -> Global {
     let told = int(rt, "a", "c", Global::End);
     let inner = choice(rt, "b", "a", &["p", "q"], told);

@@ -295,7 +295,7 @@ use Line::{Asks, Count, GoesBack, Keeps, Moves, RollsBack, Step, Undoes, Waits};
 fn is_told(rt: &impl Abort, row: usize, found: String, wanted: &str) {
     assert!(rt;
         found.as_str() == wanted,
-        "row {row} (from 0): {found} for {wanted}"
+        "row {row} (from 0): found {found}, wanted {wanted}"
     );
 }
 
@@ -599,10 +599,13 @@ pub(super) fn opens_so(
 ) {
     let wanted = fault_of(wanted);
     let fault = Session::open(rt.alloc(), types).err();
-    assert!(rt; fault == wanted, "{what}: {fault:?} for {wanted:?}");
+    assert!(rt;
+        fault == wanted,
+        "{what}: found {fault:?}, wanted {wanted:?}"
+    );
 }
 
-// Types: nothing; an output to a; the same and then an input from c.
+// Types: nothing; an output to a; an output to a and then an input from c.
 const END: &[Row] = &[];
 
 const TO_A: &[Row] = &[(true, A, Sort::Int)];

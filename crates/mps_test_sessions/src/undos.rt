@@ -213,7 +213,7 @@ const AFTER_THEM: &[Line] = &[
 // `mps_session::Session::undo` of each of 1,000 sends at once: the session then goes on as a new one, with the number
 // 1,001.
 #[test]
-fn a_number_undone_a_thousand_times_never_comes_again(rt: HostRuntime) {
+fn no_number_of_a_thousand_undone_sends_comes_again(rt: HostRuntime) {
     let mut session = opened(&rt, giving(&rt));
     send_and_undo(&rt, &mut session, 1000);
     play(&rt, &mut session, AFTER_THEM);

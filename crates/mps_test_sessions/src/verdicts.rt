@@ -336,7 +336,9 @@ const IN_NONE: &Judged<'static> = &Judged(
     &[Row(CHOOSES, Ask::Choose(B, "no"), None, NO_LABEL)],
 );
 
-// `mps_monitor::judge` takes labels as they come: of two that are the same, the first. A law's call does nothing.
+// `mps_monitor::judge` takes labels as they come: of two that are the same, the first. Where there is none, it answers
+// `NoLabel`. The law `the_machine_moves_the_same` says that the first message that waits is enough to tell what a step
+// moves; its call does nothing: it shows that others can call it so.
 #[test]
 fn of_two_labels_that_are_the_same_the_first_is_taken(rt: HostRuntime) {
     are_answered(&rt, IN_THE_FIRST);
@@ -421,9 +423,10 @@ const OF_SIXTEEN: &Judged<'static> = &Judged(
     ],
 );
 
-// `mps_monitor::judge` finds each of the most labels, 16, at its place, and no other.
+// `mps_monitor::judge` finds labels among the most, 16, at their places, here l1, l2, l15 and l16, and finds neither
+// l17, which isn't there, nor l, the front of all.
 #[test]
-fn each_of_sixteen_labels_is_found_at_its_place(rt: HostRuntime) {
+fn labels_among_sixteen_are_found_at_their_places(rt: HostRuntime) {
     are_answered(&rt, OF_SIXTEEN);
 }
 
@@ -550,9 +553,10 @@ fn leads_to(rt: &(impl Abort + AllocGlobal), t: &Local, asked: Asked, to: u8) {
     goes(rt, t, &rows);
 }
 
-// `mps_monitor::next_node` leads to the node behind the label: there an output to the role of its place is allowed.
+// `mps_monitor::next_node` leads to the node behind the label, here behind l1, l8, l9 and l16: there an output to the
+// role of its place is allowed.
 #[test]
-fn the_first_and_the_last_of_sixteen_labels_lead_to_their_nodes(rt: HostRuntime) {
+fn labels_among_sixteen_lead_to_their_nodes(rt: HostRuntime) {
     for (text, to) in [("l1", 0), ("l8", 7), ("l9", 0), ("l16", 7)] {
         let chosen = Asked(Ask::Choose(B, text), None, None);
         leads_to(&rt, &chooses(&rt, B, SIXTEEN_ARMS), chosen, to);

@@ -63,7 +63,8 @@ fn is_played<R: Wait + Eprint + 'static>(
     Ok(writer.bytes() == *answers && attended == *ended)
 }
 
-// Each does, one after the other, or its place is the failure.
+// Each connection comes to what its row says, one after the other, or the failure has its row's place and the wanted
+// end.
 fn are_played<R: Wait + Eprint + 'static>(
     rt: &R,
     alloc: Global,
@@ -72,7 +73,11 @@ fn are_played<R: Wait + Eprint + 'static>(
 ) -> Result<(), Fail> {
     for (k, row) in rows.iter().enumerate() {
         if !is_played(rt, alloc, desk, row)? {
-            return Err(format!(in alloc; "row {k} (from 0)")?.into());
+            return Err(format!(in alloc;
+                "row {k} (from 0): other answers than wanted, or another end than {:?}",
+                row.4
+            )?
+            .into());
         }
     }
     Ok(())

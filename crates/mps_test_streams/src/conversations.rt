@@ -78,7 +78,7 @@ fn each_whole_line_is_answered_in_order(rt: HostRuntime) -> Result<(), Fail> {
     for (text, space, end, want, count) in LINE_BY_LINE {
         let pieces = in_one_piece(rt.alloc(), text)?;
         let entries = entries_after(rt.alloc(), pieces, room(*space), want.as_bytes(), *end)?;
-        assert_eq!(rt; entries, Some(*count), "the entries after `{text}`");
+        assert_eq!(rt; entries, Some(*count), "the entries after {text:?}");
     }
     Ok(())
 }
@@ -161,7 +161,7 @@ fn a_numbered_line_is_run_once(rt: HostRuntime) -> Result<(), Fail> {
     Ok(())
 }
 
-// The same lines as one text.
+// The lines of NUMBERED as one text.
 const ASKED: &str = concat!(
     "1 send b 5\n1 send b 5\n3 mark m\n2 mark m\n1 mark m\n0 mark m\n2 undo 9\nmark k\n",
     "3 undo 9\n3 undo 3\n3 undo 3\n4 show\n04 mark m\n"
@@ -207,14 +207,14 @@ fn is_told_in_two(alloc: Global, talk: &Talk, at: usize) -> Result<bool, Fail> {
     Ok(entries == Some(talk.2))
 }
 
-// `mps_wire::converse` answers the same lines in whatever two pieces they come.
+// `mps_wire::converse` gives a conversation's answers in whatever two pieces its lines come.
 #[test]
 fn any_two_pieces_are_answered_alike(rt: HostRuntime) -> Result<(), Fail> {
     for talk in TALKS {
         for at in 0..talk.0.len() + 1 {
             assert!(rt;
                 is_told_in_two(rt.alloc(), talk, at)?,
-                "cut at {at}: {}",
+                "cut at {at}: {:?}",
                 talk.0
             );
         }
@@ -238,7 +238,7 @@ fn a_line_cut_off_by_the_end_is_not_run(rt: HostRuntime) -> Result<(), Fail> {
         for at in 0..talk.0.len() + 1 {
             assert!(rt;
                 is_answered_up_to(rt.alloc(), talk, at)?,
-                "ended at {at}: {}",
+                "ended at {at}: {:?}",
                 talk.0
             );
         }
@@ -255,14 +255,15 @@ fn ends_after_reads(alloc: Global, talk: &Talk, at: usize) -> Result<bool, Fail>
     Ok(entries_after(alloc, pieces, way, &told, Ending::ReadFault)?.is_some())
 }
 
-// `mps_wire::converse` has answered the whole lines before the read that fails.
+// `mps_wire::converse` has answered the whole lines before the read that fails, and says that a read failed. A read
+// gives one byte, and the one after the first `at` bytes fails, for each `at` up to the whole text.
 #[test]
 fn whole_lines_are_answered_before_a_read_that_fails(rt: HostRuntime) -> Result<(), Fail> {
     for talk in TALKS {
         for at in 0..talk.0.len() + 1 {
             assert!(rt;
                 ends_after_reads(rt.alloc(), talk, at)?,
-                "failed after {at}: {}",
+                "wanted the answers to the whole lines in the first {at} bytes, and ReadFault: {:?}",
                 talk.0
             );
         }
@@ -286,7 +287,7 @@ fn answers_are_written_up_to_a_write_that_fails(rt: HostRuntime) -> Result<(), F
         for space in 0..talk.answer_bytes() {
             assert!(rt;
                 ends_after_bytes(rt.alloc(), talk, space)?,
-                "with room for {space} bytes: {}",
+                "with room for {space} bytes: {:?}",
                 talk.0
             );
         }

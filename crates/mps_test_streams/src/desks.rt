@@ -48,7 +48,7 @@ fn bad_peer(fault: OpenFault) -> Option<usize> {
     }
 }
 
-// The same, where a gives this peer an int.
+// Of which role the peer is bad, if of any, where a gives this peer an int.
 fn refused(alloc: Global, peer: u8) -> Result<Option<usize>, Fail> {
     match opened(alloc, peer)? {
         Ok(_hub) => Ok(None),

@@ -107,7 +107,7 @@ const ASKED: &[u8] =
 // What of it is kept.
 const KEPT: &[u8] = b"a 1 send b 5\na 2 mark m\na mark k\na 3 undo 3\n";
 
-// The same with seals, in session 1 of the relay. Seals here were computed by Python's hashlib.
+// The lines of KEPT with seals, in session 1 of the relay. Seals here were computed by Python's hashlib.
 const SEALED: &[u8] = b"a 1 send b 5 c7d5a8b15e5c78c4\na 2 mark m 0b3e8f4d066c445c\n\
 a mark k 9f2e668e482afe00\na 3 undo 3 c541aa149bb0fe23\n";
 
@@ -152,7 +152,7 @@ struct Kept {
     told: Vec<u8>,
 }
 
-// The same where the book has so many lines and takes so many bytes.
+// What a conversation comes to where the book has so many lines and takes so many bytes.
 fn kept_by(alloc: Global, lines: u64, space: usize) -> Result<Kept, Fail> {
     let mut caller = with_book(alloc, lines, space)?;
     let (ending, told) = talked(alloc, &mut caller)?;
@@ -576,8 +576,8 @@ fn a_restored_session_goes_on(rt: HostRuntime) -> Result<(), Fail> {
     Ok(())
 }
 
-// `mps_hub::Desk::restore` names the first line that isn't accepted, here for a wrong peer, though the next is
-// unreadable.
+// `mps_keeper::RestoredRoom::restore_from` names the first line that isn't accepted, here 2 for a wrong peer, though
+// the next is unreadable.
 #[test]
 fn the_first_bad_line_is_named(rt: HostRuntime) -> Result<(), Fail> {
     let alloc = rt.alloc();

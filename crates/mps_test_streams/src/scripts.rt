@@ -43,7 +43,7 @@ fn run(
     Ok(fault)
 }
 
-// The same of these pieces, with what is written.
+// How a run of these pieces goes.
 fn outcome(
     alloc: Global,
     types: Vec<Local>,
@@ -69,7 +69,7 @@ pub(crate) fn comes_to(
     Ok(written.as_slice() == want && found == fault)
 }
 
-// The same of a script of a relay's roles.
+// Whether the run of a relay's script in these pieces ends so, with these bytes written.
 fn relays(
     alloc: Global,
     pieces: Vec<Vec<u8>>,
@@ -123,7 +123,7 @@ fn each_line_of_a_script_is_answered_in_order(rt: HostRuntime) -> Result<(), Fai
     for (script, want) in EACH_LINE {
         assert!(rt;
             is_answered(rt.alloc(), script, want)?,
-            "the answers to `{script}`"
+            "the answers to {script:?}"
         );
     }
     Ok(())
@@ -146,7 +146,7 @@ const PLAYED: &[(&str, &str)] = &[
 const SHOWN: &str =
     r#"{"history":[[1,"a","send","b",5],[2,"b","recv","a","x",5]],"queues":[],"roles":[{"expects":"end","past":[1],"role":"a","store":[]},{"expects":"send c int","past":[2],"role":"b","store":[["x",5]]},{"expects":"recv b int","past":[],"role":"c","store":[]}]}"#;
 
-// The same script as one text, whose last line no LF ends.
+// The lines of PLAYED as one text, whose last line no LF ends.
 const ASKED: &str =
     "a send b 5\nb recv a x\nb show\n\na undo 1\na rollback 1\nb news 0\nb send c 1\na send b 6";
 
@@ -175,7 +175,7 @@ fn told_in_all(alloc: Global, at: usize) -> Result<Vec<u8>, Fail> {
     Ok(told)
 }
 
-// `mps_wire::replay` writes the same answers in whatever two pieces the script comes.
+// `mps_wire::replay` writes a script's answers in whatever two pieces it comes.
 #[test]
 fn any_two_pieces_are_answered_alike(rt: HostRuntime) -> Result<(), Fail> {
     let told = told_in_all(rt.alloc(), ASKED.len())?;
@@ -296,7 +296,7 @@ fn are_answered(alloc: Global, protocol: &str, rows: &[(&str, &str)]) -> Result<
 fn a_script_follows_a_loop_and_a_choice(rt: HostRuntime) -> Result<(), Fail> {
     assert!(rt;
         are_answered(rt.alloc(), TALK, CHOSEN)?,
-        "the lines of a loop and a choice"
+        "17 lines, each answered as its row of CHOSEN says"
     );
     Ok(())
 }
@@ -361,7 +361,7 @@ fn is_long(alloc: Global, length: usize) -> Result<bool, Fail> {
     )
 }
 
-// The same where it comes in two pieces.
+// Whether such a line is answered so where it comes in two pieces.
 fn is_long_in_two(alloc: Global, length: usize) -> Result<bool, Fail> {
     let pieces = cut_long_line(alloc, length, "a send b 5")?;
     relays(alloc, pieces, room(200), LONG_ANSWERED, None)
@@ -549,7 +549,7 @@ fn without_room(alloc: Global, reader: &mut Pieces) -> Result<Option<ReplayFault
     run(alloc, types(alloc, RELAY)?, reader, &mut writer)
 }
 
-// The same of two lines, and what is left to read then.
+// What a run of two lines ends with that has no room for an answer, and what is left to read then.
 fn left_unread(alloc: Global) -> Result<(Option<ReplayFault>, Vec<u8>), Fail> {
     let pieces = in_pieces(alloc, &["a send b 5\n", "b recv a x\n"])?;
     let mut reader = Pieces::new(pieces, None);
@@ -635,7 +635,7 @@ fn leaves(alloc: Global, row: &OnASession) -> Result<bool, Fail> {
 #[test]
 fn a_script_runs_on_a_given_session(rt: HostRuntime) -> Result<(), Fail> {
     for row in ON_A_SESSION {
-        assert!(rt; leaves(rt.alloc(), row)?, "the room after `{}`", row.0);
+        assert!(rt; leaves(rt.alloc(), row)?, "the room after {:?}", row.0);
     }
     Ok(())
 }

@@ -193,7 +193,7 @@ fn is_bad_line(alloc: Global, roles: &Roles, line: &str) -> bool {
     )
 }
 
-// `mps_line::read_script_line` says `Bad` of each line that spells no command of a role.
+// `mps_line::read_script_line` says `Bad` of these lines, which spell no command of a role.
 #[test]
 fn a_line_that_spells_no_command_of_a_role_is_bad(rt: HostRuntime) {
     let roles = three_roles(&rt);
@@ -367,7 +367,7 @@ fn is_bad_command(alloc: Global, roles: &Roles, line: &str) -> bool {
     )
 }
 
-// `mps_line::read_command` says `Bad` of each line that spells no command.
+// `mps_line::read_command` says `Bad` of these lines, which spell no command.
 #[test]
 fn a_line_that_spells_no_command_is_bad(rt: HostRuntime) {
     let roles = three_roles(&rt);
@@ -471,7 +471,7 @@ const BAD_NUMBERED: &[&str] = &[
     "a mark m",
     "Mark m",
     "mark m 4",
-    // the same with a commit
+    // a commit: a space too many or too few, a part too many, another spelling, of its number too
     "4  commit",
     "4 commit ",
     "4 commit x",
@@ -490,14 +490,14 @@ fn is_bad_numbered(alloc: Global, roles: &Roles, line: &str) -> bool {
     )
 }
 
-// `mps_line::read_numbered` says `Bad` of each line that spells neither a command nor a number and a change.
+// `mps_line::read_numbered` says `Bad` of these lines, which spell neither a command nor a number and a change.
 #[test]
 fn a_number_before_no_change_is_bad(rt: HostRuntime) {
     let roles = two_roles(&rt);
     for line in BAD_NUMBERED {
         assert!(rt;
             is_bad_numbered(rt.alloc(), &roles, line),
-            "`{line}` has no number"
+            "`{line}` is no line of a conversation"
         );
     }
 }

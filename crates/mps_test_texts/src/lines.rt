@@ -134,7 +134,7 @@ fn single_bytes_give_the_same_lines(rt: HostRuntime) {
     are_told(&rt, TEXT, 1, LINES_OF_TEXT);
 }
 
-// `mps_lines::Lines` reports the same five lines wherever the text is cut in two.
+// `mps_lines::Lines` reports the five lines of the text wherever it is cut in two.
 #[test]
 fn any_two_pieces_give_the_same_lines(rt: HostRuntime) {
     are_told_in_two(&rt, TEXT, LINES_OF_TEXT);

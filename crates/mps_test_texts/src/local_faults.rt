@@ -326,7 +326,8 @@ const FAULTLESS: &[&[Part<'static>]] = &[
     &[Part::Chooses(&["l", "m"]), Part::Chooses(&["l", "m"])],
 ];
 
-// `mps_local::first_fault` finds none in these. A law's call does nothing: it shows that others can call it so.
+// `mps_local::first_fault` finds none in these. The laws `local_fault_laws`, `local_size_laws` and
+// `projections_have_no_fault` are called last: a law's call does nothing, it shows that others can call it so.
 #[test]
 fn a_type_without_a_fault_has_none(rt: HostRuntime) {
     for (k, parts) in FAULTLESS.iter().enumerate() {

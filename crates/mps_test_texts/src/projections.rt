@@ -140,7 +140,7 @@ const ONE: [Part<'static>; 2] = [
     Part::Sent("a", "c", Int),
 ];
 
-// The same after a message, which is no choice and isn't counted.
+// The choice of ONE after a message, which is no choice and isn't counted.
 const BEHIND: [Part<'static>; 3] = [
     Part::Sent("a", "b", Int),
     Part::Choice("a", "b", &["l", "r"]),
@@ -194,8 +194,9 @@ const IDLE: [Part<'static>; 4] = [
 // What a, b and c may say, and the choice that can't be merged for c. Choices are counted in preorder, from 0.
 const CHOICES: &[(&[Part<'static>], usize)] = &[(&ONE, 0), (&BEHIND, 0), (&INNER, 1), (&OWN, 1)];
 
-// `mps_local::project` names the first choice of others that differs for c, the role at place 2. A law's call does
-// nothing.
+// `mps_local::project` names the choice of others whose branches differ for c, the role at place 2. The law
+// `projection_laws` says that a role's type names other roles alone, and has no more nodes or levels than the protocol;
+// its call does nothing: it shows that others can call it so.
 #[test]
 fn the_choice_whose_branches_differ_is_named(rt: HostRuntime) {
     for row in CHOICES {
@@ -243,22 +244,31 @@ fn types_of(
     project_all(rt.alloc(), &protocol)
 }
 
-// `mps_local::project_all` gives the types of a, b and c in order, or names the first role that has none, and the
-// choice.
+// `mps_local::project_all` gives the types of a, b and c in order: in RELAY a sends to b, b receives from a, and c from
+// b. In ONE a and b have types and c, at place 2, has none, which is named with the choice, 0. That the first of
+// several roles is named this doesn't show.
 #[test]
 fn all_roles_are_projected_in_order(rt: HostRuntime) {
     let types = types_of(&rt, &RELAY).expect(&rt, "types");
-    let shown = match types.as_slice() {
-        [Local::Send { .. }, Local::Recv { .. }, Local::Recv { .. }] => "sends, and two receive",
-        _ => "something else",
+    let peers = match types.as_slice() {
+        [
+            Local::Send { peer: a, .. },
+            Local::Recv { peer: b, .. },
+            Local::Recv { peer: c, .. },
+        ] => { Some((a.index(), b.index(), c.index())) }
+        _ => None,
     };
-    assert_eq!(rt; shown, "sends, and two receive", "the types of a, b and c");
-    let first = ProjectFault::Unmergeable {
+    assert_eq!(rt;
+        peers,
+        Some((1, 0, 1)),
+        "the peers of a's send and of b's and c's receipts"
+    );
+    let of_c = ProjectFault::Unmergeable {
         role: Role::new(2),
         choice: 0,
     };
     assert!(rt;
-        types_of(&rt, &ONE).err() == Some(first),
+        types_of(&rt, &ONE).err() == Some(of_c),
         "no type for c, for choice 0"
     );
 }

@@ -110,7 +110,8 @@ const PROTOCOLS: &[&[u8]] = &[
     b"roles a b ; ABCDEFGHIJKLMNOPQRSTUVWXYZ_01234",
 ];
 
-// `mps_text::read_protocol` reads each text that spells a protocol. What it is read as, the next two tests look at.
+// `mps_text::read_protocol` reads these texts, which spell protocols. What a text is read as, the next two tests look
+// at, of others.
 #[test]
 fn a_text_that_spells_a_protocol_is_read(rt: HostRuntime) {
     for text in PROTOCOLS {
@@ -452,8 +453,8 @@ fn a_tree_that_no_text_spells_is_written(rt: HostRuntime) {
     );
 }
 
-// `mps_text::TextFault` is displayed with its byte and kind. A law's call does nothing: it shows that others can call
-// it so.
+// `mps_text::TextFault` is displayed with its byte and kind. The laws `one_protocol`, `one_fault`, `protocol_or_fault`,
+// `written_reads` and `first_tokens` are called last: a law's call does nothing, it shows that others can call it so.
 #[test]
 fn a_fault_is_shown_with_byte_and_kind(rt: HostRuntime) {
     let fault = TextFault {

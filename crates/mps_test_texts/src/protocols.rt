@@ -162,9 +162,10 @@ const CHOICES: &[(&[Part<'static>], Checked)] = &[
     ),
 ];
 
-// `mps_global::check` refuses a choice by its roles, and then by its labels: none, one twice, or more than 16.
+// `mps_global::check` refuses a choice for its roles before its labels: one unknown, or both the same; then a label
+// twice, more than 16, or none.
 #[test]
-fn a_choice_is_refused_by_its_roles_and_labels(rt: HostRuntime) {
+fn the_roles_of_a_choice_are_checked_before_its_labels(rt: HostRuntime) {
     are_checked(&rt, &NINE[..3], CHOICES);
 }
 
@@ -226,8 +227,9 @@ const VARIABLES: &[(&[Part<'static>], Checked)] = &[
     ),
 ];
 
-// `mps_global::check` refuses a variable without its `rec` or right behind, a `rec` in one of its name. A law's call
-// does nothing.
+// `mps_global::check` refuses a variable without its `rec` or right behind it, and a `rec` in one of its name. The laws
+// `size_laws`, of the count of nodes and levels, and `protocol_laws`, of protocols without a fault, are called last: a
+// law's call does nothing, it shows that others can call it so.
 #[test]
 fn a_variable_without_a_guarded_loop_is_refused(rt: HostRuntime) {
     are_checked(&rt, &NINE[..2], VARIABLES);

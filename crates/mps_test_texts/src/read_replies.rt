@@ -29,7 +29,7 @@ fn reply(rt: &(impl Abort + AllocGlobal), line: &[u8]) -> Reply {
     read_answer(rt.alloc(), line).expect(rt, "a reply")
 }
 
-// What the reply is written as, and whether that is read as the same.
+// What the reply is written as, and whether that is read as this reply.
 fn written(rt: &(impl Abort + AllocGlobal), reply: &Reply) -> (Vec<u8>, bool) {
     let (line, read) = again(rt.alloc(), reply).expect(rt, "the same");
     (line, shown(rt, reply).as_str() == shown(rt, &read).as_str())
@@ -83,6 +83,9 @@ const REPLIES: &[(&str, u8)] = &[
     ("refused final 0", 18),
     ("refused final 18446744073709551615", 18),
     ("refused number", 19),
+    ("refused busy", 20),
+    ("refused journal", 21),
+    ("refused elsewhere", 22),
 ];
 
 // Whether the line is read as a reply, which is written and read again.
@@ -186,6 +189,7 @@ const BAD_REPLIES: &[&str] = &[
     "refused it",
     "refused number ",
     "refused number 3",
+    "refused journal 3",
     "refused numbers",
     // a shown session begins with its brace, and has bytes from the space to `~` alone
     " {x",
@@ -204,7 +208,7 @@ fn is_bad_reply(alloc: Global, line: &str) -> bool {
     matches!(read_answer(alloc, line.as_bytes()), Err(LineFault::Bad))
 }
 
-// `mps_line::read_answer` says `Bad` of each line that is no reply.
+// `mps_line::read_answer` says `Bad` of these lines, which are no replies.
 #[test]
 fn a_line_that_is_no_reply_is_bad(rt: HostRuntime) {
     for line in BAD_REPLIES {
@@ -280,8 +284,8 @@ fn is_bad_join(line: &str) -> bool {
     matches!(read_join(line.as_bytes()), Err(LineFault::Bad))
 }
 
-// `mps_line::read_join` reads `join`, a number below 2^64 and a name, each in its one spelling, and says `Bad` of all
-// else.
+// `mps_line::read_join` reads `join`, a number below 2^64 and a name, each in its one spelling, and says `Bad` of the
+// other lines here.
 #[test]
 fn a_join_has_one_spelling(rt: HostRuntime) {
     for (line, session, name) in JOINS {

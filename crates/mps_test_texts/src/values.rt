@@ -429,7 +429,9 @@ fn put(rt: &impl Abort, text: &mut Vec<u8>, token: &[u8]) {
     push_token(text, token).expect(rt, "memory");
 }
 
-// `mps_base::push_token` puts one space between two tokens, and none before the first. A law's call does nothing.
+// `mps_base::push_token` puts one space between two tokens, and none before the first. The law
+// `spacing::written_spaced` says so of all tokens, where the first isn't empty; its call does nothing: it shows that
+// others can call it so.
 #[test]
 fn one_space_stands_between_two_tokens(rt: HostRuntime) {
     let mut text = Vec::new(rt.alloc());
@@ -439,7 +441,7 @@ fn one_space_stands_between_two_tokens(rt: HostRuntime) {
     assert_eq!(rt;
         text.as_slice(),
         b"a -> b".as_slice(),
-        "one space between two tokens"
+        "what a, -> and b give: a -> b"
     );
     spacing::written_spaced();
 }

@@ -15,7 +15,7 @@ fn is_written(rt: &(impl Abort + AllocGlobal), reply: &Reply, line: &str) {
     );
 }
 
-// The same of the answer alone.
+// The answer is written as this line, after a `#`.
 fn is_answer(rt: &(impl Abort + AllocGlobal), answer: Answer, line: &str) {
     is_written(rt, &Reply::Answer(answer), line);
 }
@@ -26,7 +26,7 @@ fn is_done(rt: &(impl Abort + AllocGlobal), number: u64, got: Option<Message>, l
     is_answer(rt, Answer::Done(Done { id, got }), line);
 }
 
-// The same where this value was taken.
+// The answer that this step is done, and took this value, is written so.
 fn is_taken(rt: &(impl Abort + AllocGlobal), number: u64, value: Value, line: &str) {
     is_done(rt, number, Some(Message::Value(value)), line);
 }
@@ -160,4 +160,7 @@ fn each_refusal_that_no_room_gives_is_written(rt: HostRuntime) {
     is_written(&rt, &Reply::NoRole, "#refused norole");
     is_written(&rt, &Reply::Taken, "#refused taken");
     is_written(&rt, &Reply::Number, "#refused number");
+    is_written(&rt, &Reply::Busy, "#refused busy");
+    is_written(&rt, &Reply::Unkept, "#refused journal");
+    is_written(&rt, &Reply::Elsewhere, "#refused elsewhere");
 }

@@ -84,19 +84,26 @@ fn lines_are_written_by_mps_line(rt: HostRuntime) -> Result<(), Fail> {
     Ok(())
 }
 
-// Each reply that no room gives has its code.
+// Refusals that no room gives have their codes.
 fn have_codes(rt: &impl Abort) {
     assert_eq!(rt; Reply::BadLine.code(), 14, "the code of a bad line");
     assert_eq!(rt; Reply::NoSession.code(), 15, "the code of no session");
     assert_eq!(rt; Reply::NoRole.code(), 16, "the code of no role");
     assert_eq!(rt; Reply::Taken.code(), 17, "the code of a taken role");
     assert_eq!(rt; Reply::Number.code(), 19, "the code of a wrong number");
+    assert_eq!(rt; Reply::Busy.code(), 20, "the code of a busy server");
+    assert_eq!(rt; Reply::Unkept.code(), 21, "the code of a bad journal");
+    assert_eq!(rt;
+        Reply::Elsewhere.code(),
+        22,
+        "the code of another server's session"
+    );
 }
 
-// mps_line: `Reply::code` and `read_answer`: the codes of replies that no room gives, as in FORMATS; and a reply that
+// mps_line: `Reply::code` and `read_answer`: the codes of refusals that no room gives, as in FORMATS; and a reply that
 // is no refusal is read.
 #[test]
-fn each_reply_of_mps_line_has_its_code(rt: HostRuntime) -> Result<(), Fail> {
+fn refusals_of_mps_line_itself_have_their_codes(rt: HostRuntime) -> Result<(), Fail> {
     have_codes(&rt);
     let joined = read_answer(rt.alloc(), b"joined 1 a")?;
     assert!(rt;

@@ -378,10 +378,11 @@ fn a_send_waits_in_a_session_of_mps_session(rt: HostRuntime) -> Result<(), Fail>
     Ok(())
 }
 
-// mps_session: `Session::back`, `would`, `rollback` and `slot`: a return without a mark, a rollback of a step that
-// isn't there, 2, and one of the step that is, 1; b received nothing, so it has no slot.
+// mps_session: `Session::back`, `would`, `rollback` and `slot`, where a sent step 1 (`sent`): a return without a mark
+// and a rollback of a step that isn't there, 2, are refused; one of step 1 takes it back alone. b received nothing, so
+// its slot m is empty.
 #[test]
-fn steps_are_taken_back_in_mps_session(rt: HostRuntime) -> Result<(), Fail> {
+fn a_sent_step_is_rolled_back_in_mps_session(rt: HostRuntime) -> Result<(), Fail> {
     let mut session = sent(rt.alloc())?;
     let name = Name::read(b"m").expect(&rt, "a name");
     assert!(rt;

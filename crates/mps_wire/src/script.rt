@@ -19,7 +19,7 @@ ghost use Rattle.mps_wire.specs.declared.script.ReplayFault.TheVariants.{Memory 
 use crate::sending::send_all;
 use mps_base::{Role, Roles};
 use mps_command::{Command, Refusal};
-use mps_dev::{Failed, MAX_READS, Sink, Source};
+use mps_dev::{MAX_READS, Sink, Source};
 use mps_line::laws::one_script_line;
 use mps_line::{LineFault, append_answer, read_script_line, write_bad_line, write_refused};
 use mps_lines::{MAX_LINE, keep, line_end};
@@ -93,8 +93,9 @@ fn reply_with_show(room: &Room, answers: &mut Vec<u8>) -> Result<(), AllocError>
     append_answer(&room.answer_show(), answers)
 }
 
-// Gives the role's command to the room, and appends the answer. When out of memory the command may have been run, with
-// a part of its answer in `answers`; the run is given up then.
+// Gives the role's command to the room, and appends the answer. When out of memory the command may have been run, with a
+// part of its answer in `answers`; the run is given up then. Questions are taken out before `apply`, which tells them
+// apart too, so that other lines keep no space for their answers.
 fn reply_to_command(
     room: &mut Room,
     role: Role,
@@ -114,8 +115,9 @@ fn reply_to_command(
     }
 }
 
-// Runs a line of the script, if it spells a command, and appends the reply; a line over 512 bytes is unreadable. When
-// out of memory the command may have been run, with a part of its reply in `answers`; the run is given up then.
+// Runs a line of the script, if it spells a command, and appends the reply; a line over 512 bytes is unreadable. When out
+// of memory the command may have been run, with a part of its reply in `answers`; the run is given up then. Apart from
+// `answer_line`, so that each way out leads to the LF.
 fn reply_to_line(
     alloc: Global,
     room: &mut Room,
@@ -247,23 +249,6 @@ impl ScriptRun {
     }
 }
 
-// Writes the answers that wait, and clears them. After a failure only a front of them may be written, and all still
-// wait; the run is given up then.
-fn send_answers<W: Sink>(writer: &mut W, answers: &mut Vec<u8>) -> Result<(), Failed>
-    requires { W.failed_calls writer.old < 2 ^ 63 }
-    ensures sent { OnOk result (Appends (W.taken writer.old) (W.taken writer.new)
-        answers.old.items) }
-    ensures none_wait { OnOk result (answers.new.items ≡ []) }
-    ensures counted { OnOk result (W.failed_calls writer.new ≡ W.failed_calls writer.old) }
-    ensures failed { OnErr result (W.failed_calls writer.new ≡ W.failed_calls writer.old + 1) }
-    ensures front { OnErr result (TookFront (W.taken writer.old) (W.taken writer.new)
-        answers.old.items) }
-{
-    send_all(writer, answers.as_slice())?;
-    answers.clear();
-    Ok(())
-}
-
 // One round of `replay_session`: reads once, answers the lines that are whole then, at the end also a rest without an
 // LF, and writes the answers. Returned is whether that was the end.
 fn read_and_answer<R: Source, W: Sink>(
@@ -297,9 +282,11 @@ fn read_and_answer<R: Source, W: Sink>(
     } else {
         run.feed(&block[..count])?;
     }
-    if send_answers(writer, &mut run.answers).is_err() {
+    // after a failure a front of the answers may be written, and all still wait; the run is given up
+    if send_all(writer, run.answers.as_slice()).is_err() {
         return Err(ReplayFault::WriteFault);
     }
+    run.answers.clear();
     Ok(count == 0)
 }
 

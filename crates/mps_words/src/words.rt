@@ -352,7 +352,8 @@ fn bound_in<'a>(found: &ArgMatches<'a>, name: &str, range: Range) -> Option<Opti
     }
 }
 
-// The folder where the sessions are kept, and how, if a folder was given.
+// The folder of `--journal`, and whether `--sync` and `--strict` came with it; `None` without `--journal`, where clap lets
+// neither of the two come.
 fn journal_in<'a>(found: &ArgMatches<'a>) -> Option<JournalFolder<'a>> {
     let folder = found.get_str("journal")?;
     Some(JournalFolder {

@@ -2,7 +2,7 @@
 use Rattle.std.specs.Prelude.{◌≡◌, ⊤, ℕ, List, Option}
 use Rattle.std.specs.Io.KnownBytes.{Appends}
 use Rattle.mps_hub.specs.declared.server.ServeFault.{ServeFault}
-use Rattle.mps_hub.specs.declared.server.ServeFault.TheVariants.{Accept as NotAccepted, Memory as OutOfMemory, Unrecorded}
+use Rattle.mps_hub.specs.declared.server.ServeFault.TheVariants.{Accept as NotAccepted, Memory as OutOfMemory, NoneLeft, Unrecorded}
 use Rattle.mps_hub.specs.Places.{IsSession}
 use Rattle.mps_program.specs.Served.{IsListeningLine, IsPortFor}
 use Rattle.mps_program.specs.declared.faults.ToolFault.{ToolFault}
@@ -31,3 +31,4 @@ abbrev pub of_serving : ServeFault → ToolFault
 of_serving NotAccepted = Accept
 of_serving OutOfMemory = Memory
 of_serving (Unrecorded session) = JournalBroken session
+of_serving NoneLeft = Accept

@@ -28,7 +28,7 @@ returns-in-106-clause-bad c = λ e.
 pub returns-in-114-clause-bad : goal.returns-in-114-clause-bad
 returns-in-114-clause-bad c = λ e.
     let first : get_or c.args.bytes.now 0 0 ≡ 114 = search rules in
-    no_other_refused _ first (c.refused_reply.ensures.refusal e) (c.refused_reply.ensures.line e) (c.refused_reply.ensures.session e) (c.refused_reply.ensures.role e) (c.refused_reply.ensures.pass e) (c.refused_reply.ensures.number e)
+    no_other_refused _ first (c.refused_reply.ensures.refusal e) (c.refused_reply.ensures.line e) (c.refused_reply.ensures.session e) (c.refused_reply.ensures.role e) (c.refused_reply.ensures.pass e) (c.refused_reply.ensures.number e) (c.refused_reply.ensures.busy e) (c.refused_reply.ensures.journal e) (c.refused_reply.ensures.elsewhere e)
 
 pub returns-in_default-clause-bad : goal.returns-in_default-clause-bad
 returns-in_default-clause-bad c = λ e.

@@ -29,7 +29,7 @@ returns-then-is_err-clause-step g c = λ first h.
     let run = c.args.run.now in
     let next = c.if-count-eq0.run in
     let old = streams g.R.Source g.W.Sink c.args.reader.now c.args.writer.now in
-    let new = streams g.R.Source g.W.Sink c.read.new.self c.send_answers.new.writer in
+    let new = streams g.R.Source g.W.Sink c.read.new.self c.send_all.new.writer in
     let front : TookFront old.taken new.taken next.answers.items = search rules in
     let failed : new.failed_writes ≡ old.failed_writes + 1 = search rules in
     elim c.if-count-eq0.branch [
@@ -52,7 +52,7 @@ returns-clause-step g c = λ first h.
     let run = c.args.run.now in
     let next = c.if-count-eq0.run in
     let old = streams g.R.Source g.W.Sink c.args.reader.now c.args.writer.now in
-    let new = streams g.R.Source g.W.Sink c.read.new.self c.send_answers.new.writer in
+    let new = streams g.R.Source g.W.Sink c.read.new.self c.send_all.new.writer in
     let sent : Appends old.taken new.taken next.answers.items = search rules in
     let counted : new.failed_writes ≡ old.failed_writes + 0 = none_more _ _ (search rules) in
     elim c.if-count-eq0.branch [

@@ -1,6 +1,6 @@
 -- `Reply::has_text` meets its clause `text`, by the lemmas of Writing.
 use Rattle.std.specs.Prelude.{codes}
-use Rattle.mps_line.proofs.Writing.{bad_line, no_session, no_role, taken, wrong_number}
+use Rattle.mps_line.proofs.Writing.{bad_line, no_session, no_role, taken, wrong_number, busy, unkept, elsewhere}
 use Rattle.mps_line.proofs.write_replies.Reply.has_text.Goals as goal
 
 pub returns-in-BadLine-clause-text : goal.returns-in-BadLine-clause-text
@@ -17,3 +17,12 @@ returns-in-Taken-clause-text c = (codes "refused taken", rw c.in-Taken.is taken)
 
 pub returns-in-Number-clause-text : goal.returns-in-Number-clause-text
 returns-in-Number-clause-text c = (codes "refused number", rw c.in-Number.is wrong_number)
+
+pub returns-in-Busy-clause-text : goal.returns-in-Busy-clause-text
+returns-in-Busy-clause-text c = (codes "refused busy", rw c.in-Busy.is busy)
+
+pub returns-in-Unkept-clause-text : goal.returns-in-Unkept-clause-text
+returns-in-Unkept-clause-text c = (codes "refused journal", rw c.in-Unkept.is unkept)
+
+pub returns-in-Elsewhere-clause-text : goal.returns-in-Elsewhere-clause-text
+returns-in-Elsewhere-clause-text c = (codes "refused elsewhere", rw c.in-Elsewhere.is elsewhere)
