@@ -3,4 +3,3 @@ pub mod Lock
 pub mod Places
 pub mod First
 pub mod Connections
-pub mod Hosting

@@ -7,7 +7,6 @@ pub mod Files
 pub mod Journals
 pub mod Rooms
 pub mod Served
-pub mod Hosted
 pub mod Streams
 pub mod Until
 pub mod Watched

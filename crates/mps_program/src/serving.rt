@@ -13,7 +13,6 @@ use crate::files::tell;
 use crate::journal_file::FileKeeper;
 use crate::journals::{Sessions, record_sessions};
 use crate::load::load_file;
-use crate::own_files::OwnFiles;
 use crate::rooms::rooms_of;
 use mps_base::write_number;
 use mps_dev::{OverWrite, Sink};
@@ -25,14 +24,10 @@ use std::alloc::{AllocError, Global};
 use std::fs::File;
 use std::io;
 use std::net::{Ipv4Addr, Net, SocketAddr, TcpListener, TcpStream};
-use std::os::fd::AsRawFd;
 use std::rt::Files;
 use std::sync::Wait;
 use std::thread::Threads;
 use std::time::Clock;
-
-// How many connections may wait to be accepted.
-const BACKLOG: i32 = 1_024;
 
 // The line that tells the port.
 fn listening_line(alloc: Global, port: u16) -> Result<Vec<u8>, AllocError>
@@ -59,11 +54,7 @@ fn session_line(alloc: Global, session: u64, entries: u64) -> Result<Vec<u8>, Al
 }
 
 // Tells the port.
-pub(crate) fn tell_port<'a, W: Sink>(
-    alloc: Global,
-    writer: &mut W,
-    port: u16,
-) -> Result<(), ToolFault<'a>>
+fn tell_port<'a, W: Sink>(alloc: Global, writer: &mut W, port: u16) -> Result<(), ToolFault<'a>>
     requires { W.failed_calls writer.old < 2 ^ 62 }
     ensures told { OnOk result (TookOne (IsListeningLine port) (W.taken writer.old) (W.taken writer.new)) }
     ensures fault { IfErr result (IsTellFault 1 0) }
@@ -154,7 +145,7 @@ fn port_of<'a>(listener: &TcpListener, wanted: u16) -> Result<u16, ToolFault<'a>
 }
 
 // A listener at this port of 127.0.0.1, and the port that it has.
-pub(crate) fn listen<'a, R: Net<Listener = TcpListener, Stream = TcpStream>>(
+fn listen<'a, R: Net<Listener = TcpListener, Stream = TcpStream>>(
     rt: &R,
     port: u16,
 ) -> Result<(TcpListener, u16), ToolFault<'a>>
@@ -163,8 +154,6 @@ pub(crate) fn listen<'a, R: Net<Listener = TcpListener, Stream = TcpStream>>(
 {
     match TcpListener::bind(rt, SocketAddr::from((Ipv4Addr::LOCALHOST, port))) {
         Ok(listener) => {
-            // std asks for 128; where the system doesn't let more wait, it stays so
-            let _same = libc::net::listen(listener.as_raw_fd(), BACKLOG);
             let found = port_of(&listener, port)?;
             Ok((listener, found))
         }
@@ -186,7 +175,7 @@ fn unserved<'a>(fault: ServeFault) -> ToolFault<'a>
 
 // Where more is to be told, tells on standard error how many connections were closed since no thread could be started
 // for them, if any were.
-pub(crate) fn tell_lost<R: Eprint>(rt: &R, lost: u64, verbose: bool) {
+fn tell_lost<R: Eprint>(rt: &R, lost: u64, verbose: bool) {
     if verbose && lost > 0 {
         let _told = eprintln!(rt; "lost {lost}");
     }
@@ -307,7 +296,7 @@ pub struct Service<'a> {
 
 // The rooms of so many sessions, of which the first has that number, and what records them, if something does.
 #[tactic(auto, using(crate::proofs::Naming::restored_named))]
-fn sessions_of<'a, R: Files<File = File> + OwnFiles + AllocGlobal + Eprint>(
+fn sessions_of<'a, R: Files<File = File> + AllocGlobal + Eprint>(
     rt: &R,
     opening: &Opening,
     first: u64,
@@ -335,16 +324,6 @@ fn sessions_of<'a, R: Files<File = File> + OwnFiles + AllocGlobal + Eprint>(
     }
 }
 
-// Tells a fault on standard error, and why, where more is to be told.
-pub(crate) fn tell_fault<R: AllocGlobal + Eprint>(rt: &R, fault: ToolFault<'_>, verbose: bool) {
-    let fault = if verbose {
-        fault
-    } else {
-        without_reason(fault)
-    };
-    let _told = report(rt, &fault);
-}
-
 // Tells on standard error of each session that was refused, while others are served. Where all were, the first is the fault.
 fn tell_refused<'a, R: AllocGlobal + Eprint>(
     rt: &R,
@@ -361,7 +340,12 @@ fn tell_refused<'a, R: AllocGlobal + Eprint>(
         None
     };
     for fault in refused {
-        tell_fault(rt, fault, verbose);
+        let fault = if verbose {
+            fault
+        } else {
+            without_reason(fault)
+        };
+        let _told = report(rt, &fault);
     }
     match unserved {
         Some(fault) => Err(fault),
@@ -378,7 +362,6 @@ fn serve_from<'a, R>(
 ) -> Result<(), ToolFault<'a>>
 where
     R: Files<File = File>
-        + OwnFiles
         + AllocGlobal
         + Print
         + Eprint
@@ -426,7 +409,6 @@ pub fn serve_file<'a, R>(
 ) -> Result<(), ToolFault<'a>>
 where
     R: Files<File = File>
-        + OwnFiles
         + AllocGlobal
         + Print
         + Eprint
