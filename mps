@@ -18,7 +18,7 @@ note=$here/out/sources
 refuses() {
     [ -t 2 ] || return 1
     while case $1 in -v | --verbose) true ;; *) false ;; esac; do shift; done
-    case $1 in check | run | same | serve) shift ;; *) return 1 ;; esac
+    case $1 in check | run | same | serve | host) shift ;; *) return 1 ;; esac
     for word; do
         [ -f "$word" ] || continue
         "$program" check -- "$word" </dev/null >/dev/null 2>&1
@@ -31,7 +31,7 @@ refuses() {
 # The word -v, by which the program says more to the person at the terminal, where these words don't have it yet.
 more() {
     [ -t 2 ] || return
-    case $1 in check | run | same | serve) ;; *) return ;; esac
+    case $1 in check | run | same | serve | host) ;; *) return ;; esac
     for word; do
         case $word in -v | --verbose) return ;; esac
     done

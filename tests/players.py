@@ -15,7 +15,8 @@ from serving import SECONDS, expect, faults
 class Client(threading.Thread):
     """Speaks for a role with random commands, numbered, and sends a line again until it has its answer.
 
-    The game has the port, the roles, for how many seconds a client pauses at most, and whether the game is over."""
+    The game has the port, the roles, for how many seconds a client pauses at most, and whether the game is over; and it may
+    say which refusals of a join pass, beside that the role is taken, and how often a client leaves."""
 
     def __init__(self, game, session, role, seed):
         super().__init__(daemon=True)
@@ -64,6 +65,8 @@ class Client(threading.Thread):
             self.line = None
             if self.dice.random() < 0.02 and not self.ask_questions():
                 continue
+            if self.dice.random() < getattr(self.game, "leaves", 0):
+                self.lose()
             time.sleep(self.dice.random() * self.game.pause)
 
     def ask_questions(self):
@@ -91,7 +94,7 @@ class Client(threading.Thread):
         answer = self.round_trip(f"join {self.session} {self.role}")
         if answer == f"joined {self.session} {self.role}":
             return True
-        if answer not in (None, "refused taken"):
+        if answer not in (None, "refused taken", *getattr(self.game, "passing", ())):
             faults.append(f"{self.role} of session {self.session} joins and is answered {answer!r}")
         self.lose()
         return False

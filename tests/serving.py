@@ -2,6 +2,7 @@
 killed with all that it started."""
 import os
 import pathlib
+import shutil
 import signal
 import socket
 import struct
@@ -117,3 +118,26 @@ def answer_of(stream):
             break
         answer += byte
     return answer
+
+
+def free_port():
+    """A port that nobody has just now."""
+    with socket.create_server(("127.0.0.1", 0)) as taken:
+        return taken.getsockname()[1]
+
+
+def rest_of(stream):
+    """All that comes until the end."""
+    answers = b""
+    try:
+        while piece := stream.recv(65_536):
+            answers += piece
+    except OSError:
+        pass
+    return answers
+
+
+def is_traced():
+    """Whether strace is here and may trace."""
+    return shutil.which("strace") is not None and subprocess.run(
+        ("strace", "-f", "-o", os.devnull, "true"), stderr=subprocess.DEVNULL, check=False).returncode == 0

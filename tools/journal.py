@@ -119,6 +119,8 @@ def drop(folder, session):
             fcntl.flock(kept, fcntl.LOCK_EX | fcntl.LOCK_NB)
         except OSError:
             raise Unread(f"{path}: a server has it") from None
+        if not os.path.exists(path) or not os.path.samestat(os.fstat(kept.fileno()), os.lstat(path)):
+            raise Unread(f"{path}: a server has just let go of it; try again")
         with own(os.path.join(folder, "sessions"), owner) as noted:
             # alone on its line, also where the one before it was torn
             noted.write(f"\n{session} removed\n".encode())

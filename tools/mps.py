@@ -6,9 +6,11 @@ mps run [--strict] FILE SCRIPT
                                --strict ends at the first line that is refused, with status 1
 mps same FILE SCRIPT SCRIPT    whether two scripts come to the same
 mps serve FILE --port P --sessions S ..
-                               serves sessions of the protocol to clients; mps serve --help has the options
+                               serves these sessions of the protocol to clients; mps serve --help has the options
+mps host FILE --port P ..      serves each session that somebody joins, for a service whose sessions come and go; mps host
+                               --help has the options
 mps explain FILE               as check; and where the protocol is refused, says where in FILE and why, of each fault that
-                               can be told apart. The four above tell the first where standard error is a terminal
+                               can be told apart. The five above tell the first where standard error is a terminal
 mps explain FILE SCRIPT        of each line of the script that is refused or unreadable, where it is and why; ends with 1
                                where there is one, and else with 0
 mps journal FILE [--script]    what the file of a recorded session has, FOLDER/K.journal: how many entries, each role's newest
@@ -57,7 +59,7 @@ from sources import built, noted_digest  # noqa: E402
 # the words that each order of mps itself may have after it
 USES = {"prove": "", "which": "[--path]", "install": "DIR", "explain": "FILE [SCRIPT]", "library": "DIR",
         "journal": "FILE [--script] | --remove FOLDER K"}
-PROGRAMS = ("check", "run", "same", "serve")  # the orders of the program
+PROGRAMS = ("check", "run", "same", "serve", "host")  # the orders of the program
 HELP = ("--help", "-h", "help")
 VERBOSE = ("-v", "--verbose")  # by which the program says more
 

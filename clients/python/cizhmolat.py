@@ -1,5 +1,5 @@
 # SPDX-License-Identifier: MIT OR Apache-2.0
-"""cizhmolat: speaks for one role of a session that `./mps serve` serves. One file, of the standard library alone.
+"""cizhmolat: speaks for one role of a session of a server, `./mps host` or `./mps serve`. One file, of the standard library alone.
 
     from cizhmolat import Role
 

@@ -1,5 +1,5 @@
 #!/usr/bin/env python3
-"""client: speaks for one role of a session that `./mps serve` serves.
+"""client: speaks for one role of a session of a server, `./mps host` or `./mps serve`.
 
 usage: client.py PORT SESSION ROLE [FILE]
 

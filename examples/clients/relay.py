@@ -1,5 +1,5 @@
 #!/usr/bin/env python3
-"""relay: the three roles of examples/relay.protocol, each a process of its own, on a session that `./mps serve` serves.
+"""relay: the three roles of examples/relay.protocol, each a process of its own, on a session of a server, `./mps host` or `./mps serve`.
 
 usage: relay.py PORT SESSION
 

@@ -3,3 +3,4 @@ pub mod Lock
 pub mod Places
 pub mod First
 pub mod Connections
+pub mod Hosting

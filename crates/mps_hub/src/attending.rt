@@ -73,7 +73,7 @@ fn send<W: Sink>(alloc: Global, writer: &mut W, reply: &Reply) -> Result<(), Uns
 }
 
 // Answers a first line that gets no pass.
-fn refuse<W: Sink>(alloc: Global, writer: &mut W, reply: &Reply) -> Attended
+pub(crate) fn refuse<W: Sink>(alloc: Global, writer: &mut W, reply: &Reply) -> Attended
     requires writes { W.failed_calls writer.old < 2 ^ 62 }
     requires refusal { code_of reply.now ≢ 0 }
     ensures { IsAnsweredFirst W.Sink writer.old writer.new reply.now result }

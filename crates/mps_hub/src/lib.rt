@@ -12,20 +12,25 @@
 
 pub mod attending;
 pub mod desk;
+pub mod door;
 pub mod first;
+pub mod hosting;
 pub mod laws;
 mod limits;
 mod lobby;
 pub(crate) mod lock;
 mod patience;
+pub mod register;
 pub mod server;
 pub mod sessions;
 
 pub use attending::{Attended, NoUsher, PassGuest, Serving, Usher};
 pub use desk::{Desk, JoinFault};
+pub use door::{Arrival, Coming, Door, MAX_OPEN};
+pub use hosting::{Host, Hosting, NotOpened, OpenSession, host_all};
 pub use limits::Limits;
-pub use lobby::MAX_OPEN;
 pub use mps_keeper::{Gate, RestoredRoom, Unguarded};
 pub use patience::FIRST_LINE;
-pub use server::{ServeFault, Served, first_lost, serve, serve_recorded, serve_with};
+pub use register::{Queue, Register};
+pub use server::{ServeFault, Served, first_lost, serve, serve_door, serve_recorded, serve_with};
 pub use sessions::{Hub, HubDeal};

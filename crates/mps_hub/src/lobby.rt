@@ -2,17 +2,14 @@
 
 use crate::limits::Limits;
 use std::alloc::{AllocError, Global};
-use std::net::{Shutdown, TcpListener, TcpStream};
-use std::os::fd::OwnedFd;
+use std::net::{Shutdown, TcpStream};
 use std::sync::{Arc, Condvar, Mutex, Wait};
 
-/// How many connections are open at once at most. Others wait in the system's queue.
-pub const MAX_OPEN: usize = 1_024;
-
-// An open connection, and the session that it joined, if it did.
+// An open connection, how many came before it, and the session that it joined, if it did.
 #[derive(Drop)]
 struct Visitor {
     stream: Arc<TcpStream, Global>,
+    came: u64,
     session: Option<u64>,
 }
 
@@ -23,10 +20,11 @@ impl Visitor {
     }
 }
 
-// The connections that are open, each at its place.
+// The connections that are open, each at its place, and how many came so far.
 #[derive(Drop)]
 struct Visitors {
     places: Vec<Option<Visitor>>,
+    came: u64,
     closed: bool,
 }
 
@@ -35,14 +33,17 @@ impl Visitors {
     fn free(&self) -> Option<usize> {
         self.places.iter().position(|place| place.is_none())
     }
-}
 
-// The listener's socket as a stream, since a listener has no `shutdown`: with it a call of `accept` that waits comes
-// back.
-pub(crate) fn bell_of(listener: &TcpListener) -> Option<TcpStream> {
-    match listener.try_clone() {
-        Ok(listener) => Some(TcpStream::from(OwnedFd::from(listener))),
-        Err(_) => None,
+    // Ends the oldest connection that joined no session, if there is one.
+    fn end_oldest(&self) {
+        let outside = self
+            .places
+            .iter()
+            .flatten()
+            .filter(|visitor| visitor.session.is_none());
+        if let Some(oldest) = outside.min_by_key(|visitor| visitor.came) {
+            oldest.end();
+        }
     }
 }
 
@@ -50,27 +51,33 @@ pub(crate) fn bell_of(listener: &TcpListener) -> Option<TcpStream> {
 #[derive(Drop)]
 pub(crate) struct Lobby {
     limits: Limits,
-    // by which whoever waits for the next connection is woken
-    bell: TcpStream,
+    // whether the oldest that joined no session makes room for the next one
+    yields: bool,
     inside: Mutex<Visitors>,
     // woken when a connection left, or the lobby was closed
     left: Condvar,
 }
 
 impl Lobby {
-    // A lobby in front of the listener that has this bell.
-    pub(crate) fn new(alloc: Global, bell: TcpStream, limits: Limits) -> Result<Lobby, AllocError> {
-        let mut places = Vec::with_capacity(alloc, MAX_OPEN)?;
-        for _ in 0..MAX_OPEN {
+    // A lobby with so many places, where the oldest that joined no session may make room for the next one.
+    pub(crate) fn new(
+        alloc: Global,
+        count: usize,
+        yields: bool,
+        limits: Limits,
+    ) -> Result<Lobby, AllocError> {
+        let mut places = Vec::with_capacity(alloc, count)?;
+        for _ in 0..count {
             places.push_reserved(None);
         }
         let inside = Visitors {
             places,
+            came: 0,
             closed: false,
         };
         Ok(Lobby {
             limits,
-            bell,
+            yields,
             inside: Mutex::new(inside),
             left: Condvar::new(),
         })
@@ -81,9 +88,14 @@ impl Lobby {
         self.limits
     }
 
-    // Waits until there is a place for one more. Says whether one is let in.
+    // Waits until there is a place for one more. Says whether one is let in. Where there is none, the oldest connection that
+    // joined no session is ended, if that may be, so that those that say nothing keep nobody out.
     pub(crate) fn lets_in<R: Wait>(&self, rt: &R) -> bool {
-        let inside = self.left.wait_while(rt, self.inside.lock(rt), |inside| {
+        let inside = self.inside.lock(rt);
+        if self.yields && inside.free().is_none() {
+            inside.end_oldest();
+        }
+        let inside = self.left.wait_while(rt, inside, |inside| {
             !inside.closed && inside.free().is_none()
         });
         !inside.closed
@@ -103,9 +115,12 @@ impl Lobby {
             return None;
         }
         let place = inside.free()?;
+        let came = inside.came;
+        inside.came = came.saturating_add(1);
         if place < inside.places.len() {
             inside.places[place] = Some(Visitor {
                 stream: shared,
+                came,
                 session: None,
             });
         }
@@ -152,6 +167,5 @@ impl Lobby {
         }
         drop(inside);
         self.left.notify_all();
-        let _rung = self.bell.shutdown(Shutdown::Both);
     }
 }

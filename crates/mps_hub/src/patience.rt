@@ -4,7 +4,7 @@ ghost use Rattle.std.specs.Io.{ReadsAtMost, WritesAtMost};
 
 use std::io;
 use std::io::{ErrorKind, Read, Write};
-use std::net::TcpStream;
+use std::net::{Shutdown, TcpStream};
 use std::time::{Clock, Duration, Instant};
 
 /// For how many seconds a server that accepts connections without end waits for the first line of one.
@@ -27,17 +27,21 @@ fn read_on(mut stream: &TcpStream, buf: &mut [u8]) -> io::Result<usize>
     stream.read(buf)
 }
 
-// Reads what comes until a moment, and waits no longer than `longest` for it.
+// Reads what comes until a moment, and waits no longer than `longest` for it, and no shorter than `least`: without that
+// nothing is read after the moment.
 pub(crate) fn read_until<R: Clock>(
     clock: &R,
     stream: &TcpStream,
     until: Instant,
+    least: Duration,
     longest: Option<Duration>,
     buf: &mut [u8],
 ) -> io::Result<usize>
     ensures { ReadsAtMost result buf.new }
 {
-    let left = until.saturating_duration_since(Instant::now(clock)?);
+    let left = until
+        .saturating_duration_since(Instant::now(clock)?)
+        .max(least);
     if left.is_zero() {
         return Err(io::Error::from(ErrorKind::TimedOut));
     }
@@ -45,6 +49,28 @@ pub(crate) fn read_until<R: Clock>(
     stream.set_read_timeout(Some(wait))?;
     read_on(stream, buf)
 }
+
+// How many blocks of what a client still sends are read once its connection has ended.
+const LINGER_BLOCKS: u64 = 16;
+
+// Reads what the client still sends, for so long a time. If a connection is closed with bytes unread, the system may take
+// back the answers that the client hasn't read yet.
+pub(crate) fn linger<R: Clock>(rt: &R, stream: &TcpStream, time: Duration) {
+    let _shut = stream.shutdown(Shutdown::Write);
+    let Some(until) = moment_after(rt, time) else {
+        return;
+    };
+    let mut block = [0u8; 4_096];
+    for _ in 0..LINGER_BLOCKS {
+        match read_until(rt, stream, until, Duration::ZERO, None, &mut block) {
+            Ok(count) if count > 0 => {}
+            _ => return,
+        }
+    }
+}
+
+// For how many milliseconds at least the rest of a line is read that is there already.
+const LEAST: u64 = 1;
 
 // The moment after so long a time.
 pub(crate) fn moment_after<R: Clock>(clock: &R, time: Duration) -> Option<Instant> {
@@ -75,13 +101,15 @@ impl Write for RetryingWriter<'_> {
     }
 }
 
-/// A connection's stream. Its first line has to have come by a moment, where there is one; after it each read waits as
-/// long as the connection may be idle.
+/// A connection's stream. Its first line has to have come by a moment, where there is one; after it each line has to come
+/// within the time for which the connection may be idle, whole, from the line before it or from its own first byte.
 #[derive(Drop)]
 pub(crate) struct TimedReader<'s, R> {
     clock: &'s R,
     stream: &'s TcpStream,
     until: Option<Instant>,
+    // how long what is there already may be read after that: it may have come while the server worked
+    least: Duration,
     idle: Option<Duration>,
 }
 
@@ -104,22 +132,75 @@ impl<'s, R: Clock> TimedReader<'s, R> {
             clock,
             stream,
             until,
+            least: Duration::ZERO,
             idle,
         })
     }
 }
 
+impl<R: Clock> TimedReader<'_, R> {
+    // This piece came: it goes on with the line that is awaited, or ends a line, and may begin another, which has its own time.
+    fn heard(&mut self, piece: &[u8]) -> io::Result<()> {
+        let Some(last) = piece.last() else {
+            return Ok(());
+        };
+        if self.until.is_some() && !piece.contains(&b'\n') {
+            return Ok(());
+        }
+        let until = match self.idle {
+            Some(idle) if *last != b'\n' => moment_after(self.clock, idle),
+            _ => None,
+        };
+        if self.until.is_some() && until.is_none() {
+            self.stream.set_read_timeout(self.idle)?;
+        }
+        self.until = until;
+        self.least = Duration::from_millis(LEAST);
+        Ok(())
+    }
+}
+
 impl<R: Clock> Read for TimedReader<'_, R> {
     fn read(&mut self, buf: &mut [u8]) -> io::Result<usize> {
-        let stream = self.stream;
-        let Some(until) = self.until else {
-            return read_on(stream, buf);
+        let count = match self.until {
+            Some(until) => {
+                read_until(self.clock, self.stream, until, self.least, self.idle, buf)?
+            }
+            None => read_on(self.stream, buf)?,
         };
-        let count = read_until(self.clock, stream, until, self.idle, buf)?;
-        if buf[..count].contains(&b'\n') {
-            self.until = None;
-            stream.set_read_timeout(self.idle)?;
+        self.heard(&buf[..count])?;
+        Ok(count)
+    }
+}
+
+/// A reader that gives first what was read ahead.
+#[derive(Drop)]
+pub(crate) struct LedReader<R> {
+    ahead: Vec<u8>,
+    given: usize,
+    rest: R,
+}
+
+impl<R> LedReader<R> {
+    // A reader that gives these bytes, and then what `rest` gives.
+    pub(crate) fn new(ahead: Vec<u8>, rest: R) -> LedReader<R> {
+        LedReader {
+            ahead,
+            given: 0,
+            rest,
         }
+    }
+}
+
+impl<R: Read> Read for LedReader<R> {
+    fn read(&mut self, buf: &mut [u8]) -> io::Result<usize> {
+        if self.given >= self.ahead.len() {
+            return self.rest.read(buf);
+        }
+        let left = &self.ahead[self.given..];
+        let count = left.len().min(buf.len());
+        buf[..count].copy_from_slice(&left[..count]);
+        self.given += count;
         Ok(count)
     }
 }

@@ -1,38 +1,32 @@
 //! A server's connections, a thread for each.
 ghost use Rattle.std.specs.Prelude.{◌≡◌, ◌+◌, ◌<◌, ◌≤◌, ◌^◌, ◌↔◌, false, IfOk, IfErr, IfSome, IsOk, IsTrue, OnOk, OnErr, length};
-ghost use Rattle.std.specs.IoError.{error_kind};
 ghost use Rattle.mps_hub.specs.Serving.{IsServeFaultOf};
 
 use crate::attending::{Serving, Usher};
 use crate::desk::Desk;
+use crate::door::{Arrival, Coming, Door, Street};
 use crate::limits::Limits;
-use crate::lobby::{Lobby, bell_of};
-use crate::patience::{RetryingWriter, TimedReader, moment_after, read_until};
+use crate::lobby::Lobby;
+use crate::patience::{LedReader, RetryingWriter, TimedReader, linger};
 use mps_dev::{OverRead, OverWrite, Sink};
 use mps_keeper::{Disk, Gate, Keeper, Unguarded};
 use std::alloc::Global;
-use std::io::ErrorKind;
-use std::net::{Shutdown, SocketAddr, TcpListener, TcpStream};
+use std::net::{TcpListener, TcpStream};
 use std::sync::{Arc, Wait};
+use std::thread;
 use std::thread::{Scope, Threads};
 use std::time::{Clock, Duration};
-use std::{io, thread};
 use thiserror::Error;
 
 // For how many milliseconds a server that accepts connections without end waits after one that couldn't be accepted.
 const PAUSE: u64 = 100;
 
-// How many connections in a row may end before they are accepted, or interrupt the wait for one.
-const PASSED_OVER: u64 = 1_000;
-
 // A connection whose thread couldn't be started.
 #[derive(Drop)]
 struct NotStarted;
 
-// For how many seconds, and for how many blocks, what a client still sends is read once its connection has ended.
+// For how many seconds what a client still sends is read once its connection has ended.
 const LINGER: u64 = 1;
-
-const LINGER_BLOCKS: u64 = 16;
 
 /// How many connections there were: those that ended, and those whose thread couldn't be started, which were closed.
 #[derive(Clone, Copy, Debug, PartialEq, Eq)]
@@ -54,22 +48,6 @@ pub enum ServeFault {
     /// Each session has no keeper, or its keeper lost lines.
     #[error("no session is left")]
     NoneLeft,
-}
-
-// Reads what the client still sends, for a while. If a connection is closed with bytes unread, the system may take
-// back the answers that the client hasn't read yet.
-fn linger<R: Clock>(rt: &R, stream: &TcpStream) {
-    let _shut = stream.shutdown(Shutdown::Write);
-    let Some(until) = moment_after(rt, Duration::from_secs(LINGER)) else {
-        return;
-    };
-    let mut block = [0u8; 4_096];
-    for _ in 0..LINGER_BLOCKS {
-        match read_until(rt, stream, until, None, &mut block) {
-            Ok(count) if count > 0 => {}
-            _ => return,
-        }
-    }
 }
 
 // Whether there is a keeper, and lines of it were lost.
@@ -119,9 +97,14 @@ impl<R: Wait> Usher for LobbyPlace<'_, R> {
 }
 
 // Ends the connections of each session of which lines were lost; all, where that ends the server.
-fn end_lost<R: Wait, G, S: Sink, D>(serving: &Serving<'_, '_, R, G, S, D>, lobby: &Lobby) {
+fn end_lost<R: Wait, G, S: Sink, D, B: Door>(
+    serving: &Serving<'_, '_, R, G, S, D>,
+    lobby: &Lobby,
+    door: &B,
+) {
     if is_over(lobby.limits().strict, serving.keepers) {
         lobby.close(serving.rt);
+        door.shut(serving.rt);
     }
     let mut session = serving.desk.first();
     for keeper in serving.keepers {
@@ -139,60 +122,33 @@ fn connection<
     G: Gate + 'static,
     S: Sink + 'static,
     D: Disk + 'static,
+    B: Door,
 >(
     serving: &Serving<'_, '_, R, G, S, D>,
     lobby: &Lobby,
+    door: &B,
     number: u64,
     place: usize,
     stream: Arc<TcpStream, Global>,
+    ahead: Vec<u8>,
 ) {
     let rt = serving.rt;
     let limits = lobby.limits();
-    if let Some(timed) = TimedReader::new(rt, &stream, limits.first_line(), limits.idle) {
+    // none is waited for where it was read already
+    let first = limits.first_line().filter(|_| ahead.is_empty());
+    if let Some(timed) = TimedReader::new(rt, &stream, first, limits.idle) {
         let _set = stream.set_nodelay(true);
-        let mut reader = OverRead::new(timed);
+        let mut reader = OverRead::new(LedReader::new(ahead, timed));
         let mut writer = OverWrite::new(RetryingWriter { stream: &stream });
         let usher = LobbyPlace { rt, lobby, place };
         let _ended = serving.attend_with(number, &usher, &mut reader, &mut writer);
     }
-    end_lost(serving, lobby);
-    linger(rt, &stream);
+    end_lost(serving, lobby, door);
+    linger(rt, &stream, Duration::from_secs(LINGER));
     // the lobby has the other handle, and closes the socket before it lets the next connection in
     drop(stream);
     lobby.leave(rt, place);
-}
-
-// The connection that was accepted, or why none is any more.
-fn accepted(found: io::Result<(TcpStream, SocketAddr)>) -> Result<TcpStream, ServeFault>
-    ensures came { IsOk result ↔ IsOk found }
-    ensures fault { IfErr found (λ error. IfErr result (λ fault.
-        (fault ≡ ServeFault.Memory) ↔ (error_kind error ≡ ErrorKind.OutOfMemory))) }
-{
-    match found {
-        Ok((stream, _)) => Ok(stream),
-        Err(error) if error.kind() == ErrorKind::OutOfMemory => Err(ServeFault::Memory),
-        Err(_) => Err(ServeFault::Accept),
-    }
-}
-
-// Whether that error of `accept` is of the connection, which is gone again, or of the wait for it, and no reason to accept
-// no more.
-fn is_passing(error: &io::Error) -> bool {
-    matches!(
-        error.kind(),
-        ErrorKind::ConnectionAborted | ErrorKind::Interrupted
-    )
-}
-
-// Accepts the next connection. One that is gone before it is accepted is passed over.
-fn accept_next(listener: &TcpListener) -> Result<TcpStream, ServeFault> {
-    for _ in 0..PASSED_OVER {
-        match listener.accept() {
-            Err(error) if is_passing(&error) => {}
-            found => return accepted(found),
-        }
-    }
-    Err(ServeFault::Accept)
+    door.left(rt);
 }
 
 // How many connections are lost by now, where one more thread was to be started.
@@ -217,21 +173,28 @@ fn let_in<
     G: Gate + Sync + 'static,
     S: Sink + Send + 'static,
     D: Disk + Sync + 'static,
+    B: Door + Sync,
 >(
     scope: &Scope<'s, E>,
     serving: &'s Serving<'s, 'd, R, G, S, D>,
     lobby: &'s Lobby,
+    door: &'s B,
     number: u64,
-    stream: TcpStream,
+    arrival: Arrival,
 ) -> Result<(), NotStarted> {
     let rt = serving.rt;
+    let Arrival { stream, ahead } = arrival;
     let Some((place, stream)) = lobby.enter(rt, serving.alloc, stream) else {
+        door.left(rt);
         return Err(NotStarted);
     };
-    let started = scope.spawn(move || connection(serving, lobby, number, place, stream));
+    let started = scope.spawn(move || connection(
+        serving, lobby, door, number, place, stream, ahead,
+    ));
     if started.is_err() {
         drop(started);
         lobby.leave(rt, place);
+        door.left(rt);
         return Err(NotStarted);
     }
     Ok(())
@@ -246,11 +209,12 @@ fn accept_all<
     G: Gate + Sync + 'static,
     S: Sink + Send + 'static,
     D: Disk + Sync + 'static,
+    B: Door + Sync,
 >(
     scope: &Scope<'s, E>,
     serving: &'s Serving<'s, 'd, R, G, S, D>,
     lobby: &'s Lobby,
-    listener: &TcpListener,
+    door: &'s B,
 ) -> Result<u64, ServeFault> {
     let limits = lobby.limits();
     let mut lost = 0;
@@ -258,16 +222,17 @@ fn accept_all<
         if !lobby.lets_in(serving.rt) {
             return Ok(lost);
         }
-        match accept_next(listener) {
-            Ok(stream) => {
-                let started = let_in(scope, serving, lobby, earlier + 1, stream);
+        match door.next(serving.rt, serving.alloc) {
+            Coming::Came(arrival) => {
+                let started = let_in(scope, serving, lobby, door, earlier + 1, arrival);
                 lost = count_lost(lost, &started);
             }
-            Err(_) if limits.connections.is_none() => thread::sleep(
+            Coming::Failed(_) if limits.connections.is_none() => thread::sleep(
                 serving.rt,
                 Duration::from_millis(PAUSE),
             ),
-            Err(fault) => return Err(fault),
+            Coming::Failed(fault) => return Err(fault),
+            Coming::Over => return Ok(lost),
         }
     }
     Ok(lost)
@@ -293,15 +258,32 @@ pub fn serve_recorded<
     ensures unrecorded { IfErr result
         (IsServeFaultOf limits.strict serving.now.desk.now.first (length serving.now.keepers.now)) }
 {
-    let Some(bell) = bell_of(listener) else {
+    let Some(street) = Street::new(listener) else {
         return Err(ServeFault::Accept);
     };
-    let Ok(lobby) = Lobby::new(serving.alloc, bell, limits) else {
+    serve_door(serving, &street, limits)
+}
+
+/// The same for connections that come through any door; it also returns once that is over, where all that come are
+/// accepted.
+pub fn serve_door<
+    R: Threads + Wait + Clock + Eprint + Sync + 'static,
+    G: Gate + Sync + 'static,
+    S: Sink + Send + 'static,
+    D: Disk + Sync + 'static,
+    B: Door + Sync,
+>(serving: &Serving<'_, '_, R, G, S, D>, door: &B, limits: Limits) -> Result<Served, ServeFault>
+    requires keepers { length serving.now.keepers.now ≤ length serving.now.desk.now.cells }
+    ensures served { IfOk result (λ s. IfSome limits.connections (λ n. s.ended + s.lost ≡ n)) }
+    ensures unrecorded { IfErr result
+        (IsServeFaultOf limits.strict serving.now.desk.now.first (length serving.now.keepers.now)) }
+{
+    let Ok(lobby) = Lobby::new(serving.alloc, door.places(), door.yields(), limits) else {
         return Err(ServeFault::Memory);
     };
     let lobby = &lobby;
     let accepted = thread::scope(thread::scope_env(), serving.rt, move |scope| {
-        accept_all(scope, serving, lobby, listener)
+        accept_all(scope, serving, lobby, door)
     });
     if limits.strict {
         if let Some(place) = first_lost(serving.keepers) {

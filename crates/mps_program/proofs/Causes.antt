@@ -14,6 +14,7 @@ use Rattle.mps_program.specs.Streams.{HasGivenOpening}
 use Rattle.mps_program.specs.Faults.{as_told, without}
 use Rattle.std.specs.Prelude.{slice_get, All}
 use Rattle.std.proofs.lemmas.Option.{slice_get_within, get_or_from_slice_get}
+use Rattle.mps_program.specs.Hosted.{IsHostFault}
 use Rattle.mps_program.specs.Journals.{IsFileFaultOf, IsSessionsFault, recorded_of}
 use Rattle.mps_program.specs.Served.{IsOutFault, IsServeFault}
 use Rattle.mps_program.specs.declared.faults.ToolFault.{ToolFault}
@@ -60,6 +61,27 @@ pub server_told : {A : Type 0} (verbose : Bool) (done : Result A ToolFault) (fil
 server_told true done file folder first n h = h
 server_told false (Ok x) file folder first n h = tt
 server_told false (Err fault) file folder first n h = bare_server file folder first n fault h
+
+-- nor is a host's
+bare_host : (file : List ℕ) (folder : Option (List ℕ)) (fault : ToolFault) → IsHostFault file folder fault → IsHostFault file folder (without fault)
+bare_host file None (File name why) h = h
+bare_host file None (Read why) h = h
+bare_host file None (Bind why) h = h
+bare_host file None (JournalFile session why) h = h
+bare_host file None (JournalLine session line why) h = h
+bare_host file None (JournalLost session why) h = h
+bare_host file (Some folder) (File name why) h = h
+bare_host file (Some folder) (Read why) h = h
+bare_host file (Some folder) (Bind why) h = h
+bare_host file (Some folder) (JournalFile session why) h = h
+bare_host file (Some folder) (JournalLine session line why) h = h
+bare_host file (Some folder) (JournalLost session why) h = h
+bare_host file folder fault h = h
+
+pub host_told : {A : Type 0} (verbose : Bool) (done : Result A ToolFault) (file : List ℕ) (folder : Option (List ℕ)) → IfErr done (IsHostFault file folder) → IfErr (as_told verbose done) (IsHostFault file folder)
+host_told true done file folder h = h
+host_told false (Ok x) file folder h = tt
+host_told false (Err fault) file folder h = bare_host file folder fault h
 
 -- why a text gives no session, as the program tells it
 pub no_types : (text : List ℕ) (why : Fault) → GivesNoSession text why → GivesNoTypes text (of_opening why)

@@ -7,6 +7,7 @@ pub mod Files
 pub mod Journals
 pub mod Rooms
 pub mod Served
+pub mod Hosted
 pub mod Streams
 pub mod Until
 pub mod Watched

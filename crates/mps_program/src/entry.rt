@@ -9,6 +9,8 @@ use crate::check::check_file;
 use crate::comparison::compare_files;
 use crate::faults::{ToolFault, report, status, told};
 use crate::files::closed_streams;
+use crate::hosting::{HostService, host_file};
+use crate::own_files::OwnFiles;
 use crate::running::run_file;
 use crate::serving::{Service, serve_file};
 use mps_hub::Limits;
@@ -71,6 +73,7 @@ fn work_on<'a, R: Files + Input + AllocGlobal + Print + Eprint>(
 pub fn obey<
     'a,
     R: Files<File = File>
+        + OwnFiles
         + AllocGlobal
         + Input
         + Print
@@ -111,6 +114,29 @@ pub fn obey<
                 journal,
             };
             serve_file(rt, file, service, verbose)?;
+            Ok(0)
+        }
+        Order::Host {
+            file,
+            port,
+            open,
+            keep,
+            idle,
+            journal,
+            verbose,
+        } => {
+            let service = HostService {
+                port,
+                open,
+                keep: Duration::from_secs(keep),
+                limits: Limits {
+                    connections: None,
+                    idle: idle.map(|seconds| Duration::from_secs(seconds)),
+                    strict: false,
+                },
+                journal,
+            };
+            host_file(rt, file, service, verbose)?;
             Ok(0)
         }
         Order::Offline { task, verbose } => carry_out(rt, task, verbose),
@@ -159,6 +185,7 @@ where
 pub fn program<
     R: Env
         + Files<File = File>
+        + OwnFiles
         + AllocGlobal
         + Input
         + Print

@@ -3,17 +3,22 @@ ghost use Rattle.std.specs.Prelude.{IfErr};
 ghost use Rattle.mps_program.specs.Journals.{IsFolderFault};
 
 use crate::faults::ToolFault;
+use crate::journal_file::{Note, Unsynced};
+use crate::own_files::OwnFiles;
+use mps_base::read_number;
 use std::alloc::{AllocError, Global};
+use std::collections::BTreeSet;
 use std::fs::{DirBuilder, File};
 use std::io::{ErrorKind, Write};
-use std::os::unix::fs::{DirBuilderExt, MetadataExt, OpenOptionsExt};
+use std::os::unix::fs::{DirBuilderExt, FileExt, MetadataExt, OpenOptionsExt};
 use std::rt::Files;
+use std::sync::Arc;
 use std::{fs, io};
 
 // How many bytes the file of a protocol has at most: a text, and an LF, and one byte more.
 const MOST_PROTOCOL: u64 = 65_538;
 
-// How many bytes the file of the sessions that have begun is read of at most.
+// How many bytes the file of the sessions that have begun is read of at a time at most.
 const MOST_BEGUN: u64 = 1 << 26;
 
 /// Makes the folder for its owner alone, unless it is there.
@@ -96,20 +101,16 @@ fn file_bytes<R: Files + AllocGlobal>(rt: &R, path: &str, most: u64) -> io::Resu
 }
 
 /// Whether the path is the name of this file itself, and of no link to it.
-pub(crate) fn names<R: Files>(rt: &R, path: &str, file: &File) -> io::Result<bool> {
-    let named = fs::symlink_metadata(rt, path)?;
+pub(crate) fn names<R: OwnFiles>(rt: &R, path: &str, file: &File) -> io::Result<bool> {
+    let named = rt.named_at(path)?;
     let opened = file.metadata()?;
     Ok(named.dev() == opened.dev() && named.ino() == opened.ino())
 }
 
 /// Opens a file of the folder to be read and added to, for its owner alone, and makes it where there is none. It has to be
-/// the folder's owner's, and no link.
-pub(crate) fn open_own<R: Files<File = File>>(
-    rt: &R,
-    folder: &str,
-    path: &str,
-) -> io::Result<File> {
-    let named = fs::symlink_metadata(rt, path);
+/// the folder's owner's, and no link. Where the path doesn't name it any more once it is open, it isn't found.
+pub(crate) fn open_own<R: OwnFiles>(rt: &R, folder: &str, path: &str) -> io::Result<File> {
+    let named = rt.named_at(path);
     let is_new = named.is_err();
     // before it is opened, which would make the file that a link leads to
     if named.is_ok_and(|named| named.is_symlink()) {
@@ -117,15 +118,18 @@ pub(crate) fn open_own<R: Files<File = File>>(
     }
     let mut options = File::options();
     options.read(true).append(true).create(true).mode(0o600);
-    let file = options.open(rt, path)?;
+    let file = rt.open_own(&options, path)?;
     let about = file.metadata()?;
-    if !about.is_file() || !names(rt, path, &file)? {
+    if !about.is_file() {
         return Err(io::Error::from(ErrorKind::InvalidInput));
     }
-    if about.uid() != fs::metadata(rt, folder)?.uid() {
+    if !names(rt, path, &file)? {
+        return Err(io::Error::from(ErrorKind::NotFound));
+    }
+    if about.uid() != rt.found_at(folder)?.uid() {
         // so that one start as root shuts nobody out
         if is_new {
-            fs::remove_file(rt, path)?;
+            rt.remove_own(path)?;
         }
         return Err(io::Error::from(ErrorKind::PermissionDenied));
     }
@@ -142,50 +146,118 @@ pub(crate) fn sync_folders<R: Files<File = File>>(
     File::open(rt, parent)?.sync_all()
 }
 
-/// The folder's file `sessions`, which has a line for each session that has begun, `K begun`, or was removed after it,
-/// `K removed`. A session that has begun isn't begun anew when its journal is gone.
+// What a line of the file `sessions` says of a session: that it has begun, or was removed after that.
+fn noted(line: &[u8]) -> Option<(u64, bool)> {
+    if let Some(number) = line.strip_suffix(b" begun") {
+        return Some((read_number(number)?, true));
+    }
+    let number = line.strip_suffix(b" removed")?;
+    Some((read_number(number)?, false))
+}
+
+/// The folder's file `sessions`: which of its sessions have begun, so that none is begun anew when its journal is gone. It
+/// has a line for each that ever had an entry, `K begun`, and `K removed` where it was removed after that. Other processes
+/// add to it too.
 #[derive(Drop)]
 pub(crate) struct Begun {
+    alloc: Global,
+    sessions: BTreeSet<u64>,
     file: File,
-    text: Vec<u8>,
+    // how many bytes of it were read
+    read: u64,
+    // the folder, where it is synced
+    folder: Option<File>,
 }
 
 impl Begun {
-    /// Opens the file, and reads what it has.
-    pub(crate) fn open<R: Files<File = File> + AllocGlobal>(
+    /// Opens the file, and reads what it has. Where it is said so, what it notes is synced.
+    pub(crate) fn open<R: Files<File = File> + OwnFiles + AllocGlobal>(
         rt: &R,
         folder: &str,
+        sync: bool,
     ) -> io::Result<Begun> {
         let path = format!(in rt.alloc(); "{folder}/sessions")?;
-        let file = open_own(rt, folder, path.as_str())?;
-        let text = file_bytes(rt, path.as_str(), MOST_BEGUN)?;
-        Ok(Begun { file, text })
+        let mut begun = Begun {
+            alloc: rt.alloc(),
+            sessions: BTreeSet::new(rt.alloc()),
+            file: open_own(rt, folder, path.as_str())?,
+            read: 0,
+            folder: if sync {
+                Some(File::open(rt, folder)?)
+            } else {
+                None
+            },
+        };
+        begun.refresh()?;
+        Ok(begun)
     }
 
-    /// Whether the newest line about the session says that it has begun.
-    pub(crate) fn has(&self, alloc: Global, session: u64) -> Result<bool, AllocError> {
-        let begun = format!(in alloc; "{session} begun")?;
-        let removed = format!(in alloc; "{session} removed")?;
-        let mut found = false;
-        for line in self.text.split(|byte| *byte == b'\n') {
-            found = line == begun.as_bytes() || found && line != removed.as_bytes();
+    /// Waits until no other process has it locked, and locks it, or unlocks it.
+    pub(crate) fn lock(&self, locked: bool) -> io::Result<()> {
+        if locked {
+            self.file.lock()
+        } else {
+            self.file.unlock()
         }
-        Ok(found)
     }
 
-    /// Adds that the session has begun, unless it says so. It begins a line of its own, since a write before it may have broken
-    /// off.
-    pub(crate) fn add(&mut self, alloc: Global, session: u64) -> io::Result<()> {
-        if self.has(alloc, session)? {
+    // Reads what was added, up to its last whole line. The newest line about a session holds.
+    fn refresh(&mut self) -> io::Result<()> {
+        let count = self.file.metadata()?.len().saturating_sub(self.read);
+        if count == 0 {
             return Ok(());
         }
-        let line = format!(in alloc; "\n{session} begun\n")?;
-        self.file.write_all(line.as_bytes())?;
-        Ok(self.text.extend_from_slice(line.as_bytes())?)
+        if count > MOST_BEGUN {
+            return Err(io::Error::from(ErrorKind::InvalidData));
+        }
+        let mut text = vec![in self.alloc; 0u8; count as usize]?;
+        self.file.read_exact_at(text.as_mut_slice(), self.read)?;
+        let Some(last) = text.iter().rposition(|byte| *byte == b'\n') else {
+            return Ok(());
+        };
+        self.take(&text[..last])?;
+        self.read = self.read.saturating_add(last as u64);
+        Ok(())
     }
 
-    /// Has the disk store what it says.
-    pub(crate) fn sync(&self) -> io::Result<()> {
-        self.file.sync_all()
+    // Takes up what these lines say.
+    fn take(&mut self, text: &[u8]) -> Result<(), AllocError> {
+        for line in text.split(|byte| *byte == b'\n') {
+            match noted(line) {
+                Some((session, true)) => {
+                    let _is_new = self.sessions.insert(session)?;
+                }
+                Some((session, false)) => {
+                    let _was_there = self.sessions.remove(&session);
+                }
+                None => {}
+            }
+        }
+        Ok(())
+    }
+
+    /// Whether the session has begun.
+    pub(crate) fn has(&mut self, session: u64) -> io::Result<bool> {
+        self.refresh()?;
+        Ok(self.sessions.contains(&session))
+    }
+
+    /// What has to be noted before the session's first entry is written; nothing where it has begun.
+    pub(crate) fn note(&mut self, session: u64, unsynced: &Unsynced) -> io::Result<Option<Note>> {
+        if self.has(session)? {
+            return Ok(None);
+        }
+        // it begins a line of its own, since a write before it may have broken off
+        let line = format!(in self.alloc; "\n{session} begun\n")?;
+        let folder = match &self.folder {
+            Some(folder) => Some(folder.try_clone()?),
+            None => None,
+        };
+        Ok(Some(Note {
+            sessions: self.file.try_clone()?,
+            line,
+            folder,
+            unsynced: Arc::try_clone(unsynced)?,
+        }))
     }
 }

@@ -9,7 +9,7 @@ use std::io;
 use std::io::{ErrorKind, Write};
 use std::os::unix::fs::MetadataExt;
 use std::sync::Arc;
-use std::sync::atomic::{AtomicU64, Ordering};
+use std::sync::atomic::{AtomicBool, AtomicU64, Ordering};
 
 // How often a write is tried again that a signal interrupts.
 const INTERRUPTS: u64 = 1_000;
@@ -21,12 +21,36 @@ const NO_SUCH_FILE: i32 = 2;
 type NewestError = Arc<AtomicU64, Global>;
 
 /// A session's journal, to be written to, by `OverWrite`, which counts failures. A write that a signal interrupts is tried
-/// again. Once the file has no name any
-/// more each write fails, since nobody would find what it has.
+/// again. Once the file has no name any more each write fails, since nobody would find what it has. Before the first write
+/// it is noted that the session has begun, where that is due.
 #[derive(Drop)]
 pub struct JournalFile {
     file: File,
     newest: NewestError,
+    note: Option<Note>,
+}
+
+/// That a session has begun, for the folder's file `sessions`; and the folder, where both are synced.
+#[derive(Drop)]
+pub(crate) struct Note {
+    pub(crate) sessions: File,
+    pub(crate) line: String,
+    pub(crate) folder: Option<File>,
+    pub(crate) unsynced: Unsynced,
+}
+
+impl Note {
+    // Writes it, and has the disk store it, where it is synced: the folder first, so that what has begun has its file.
+    fn write(&mut self) -> io::Result<()> {
+        if let Some(folder) = &self.folder {
+            synced(folder.sync_all(), &self.unsynced)?;
+        }
+        self.sessions.write_all(self.line.as_bytes())?;
+        if self.folder.is_some() {
+            synced(self.sessions.sync_data(), &self.unsynced)?;
+        }
+        Ok(())
+    }
 }
 
 /// What stores a session's journal: where it is synced, each time that lines were written. The first loss is told on
@@ -35,8 +59,12 @@ pub struct JournalFile {
 pub struct JournalDisk {
     file: File,
     newest: NewestError,
+    unsynced: Unsynced,
     about: About,
 }
+
+/// Whether a sync failed: the system may show lines then that the disk doesn't have.
+pub(crate) type Unsynced = Arc<AtomicBool, Global>;
 
 /// Which session's journal it is, whether it is synced, and whether more is told where it is lost.
 #[derive(Clone, Copy, Debug)]
@@ -60,22 +88,34 @@ fn noted<T>(newest: &NewestError, done: io::Result<T>) -> io::Result<T>
     done
 }
 
-/// The file's two parts.
+// Notes where a sync failed, and hands the result on.
+fn synced(done: io::Result<()>, unsynced: &Unsynced) -> io::Result<()> {
+    if done.is_err() {
+        unsynced.store(true, Ordering::SeqCst);
+    }
+    done
+}
+
+/// The file's two parts; the first writes the note before all else, if there is one.
 pub(crate) fn parted(
     alloc: Global,
     file: File,
     about: About,
+    note: Option<Note>,
+    unsynced: Unsynced,
 ) -> io::Result<(JournalFile, JournalDisk)> {
     let newest = Arc::new(alloc, AtomicU64::new(0))?;
     let written = JournalFile {
         file: file.try_clone()?,
         newest: Arc::try_clone(&newest)?,
+        note,
     };
     Ok((
         written,
         JournalDisk {
             file,
             newest,
+            unsynced,
             about,
         },
     ))
@@ -89,6 +129,9 @@ impl JournalFile {
     {
         if self.file.metadata()?.nlink() == 0 {
             return Err(io::Error::from_raw_os_error(NO_SUCH_FILE));
+        }
+        if let Some(mut note) = self.note.take() {
+            note.write()?;
         }
         for _ in 0..INTERRUPTS {
             match self.file.write(buf) {
@@ -121,7 +164,7 @@ impl JournalDisk {
     /// Has the disk store all of the file, where it is synced.
     pub(crate) fn sync_all(&self) -> io::Result<()> {
         if self.about.sync {
-            self.file.sync_all()
+            synced(self.file.sync_all(), &self.unsynced)
         } else {
             Ok(())
         }
@@ -130,7 +173,10 @@ impl JournalDisk {
 
 impl Disk for JournalDisk {
     fn sync(&self) -> bool {
-        !self.about.sync || noted(&self.newest, self.file.sync_data()).is_ok()
+        if !self.about.sync {
+            return true;
+        }
+        synced(noted(&self.newest, self.file.sync_data()), &self.unsynced).is_ok()
     }
 
     fn lost<R: Eprint>(&self, rt: &R) {

@@ -11,7 +11,8 @@ use crate::faults::ToolFault;
 use crate::folder::{
     Begun, has_protocol, make_folder, names, open_own, sync_folders, unusable, write_whole,
 };
-use crate::journal_file::{About, FileKeeper, parted};
+use crate::journal_file::{About, FileKeeper, Note, Unsynced, parted};
+use crate::own_files::OwnFiles;
 use crate::rooms::room_of;
 use mps_dev::{OverRead, OverWrite};
 use mps_hub::RestoredRoom;
@@ -22,13 +23,21 @@ use mps_text::write_protocol;
 use mps_words::JournalFolder;
 use std::alloc::Global;
 use std::fs::File;
-use std::io;
 use std::io::{ErrorKind, Write};
 use std::os::unix::fs::FileExt;
 use std::rt::Files;
+use std::sync::Arc;
+use std::sync::atomic::AtomicBool;
+use std::{fs, io};
+
+// How many bytes the mark of a file has, with its LF.
+const MARK: u64 = 18;
+
+// How often a file is made again that another process removed before it was locked.
+const REMOVALS: u64 = 100;
 
 /// The rooms of a server's sessions, in order, and what records them: nothing at all, or a keeper for each session that
-/// wasn't refused. Of one that was the room is new, and its fault is among `refused`, which are fewer than the sessions.
+/// wasn't refused. Of one that was the room is new, or as its file leaves it, and its fault is among `refused`.
 #[derive(Drop)]
 pub struct Sessions<'a> {
     pub rooms: Vec<RestoredRoom>,
@@ -36,15 +45,15 @@ pub struct Sessions<'a> {
     pub refused: Vec<ToolFault<'a>>,
 }
 
-// What is the same for all journals of a folder.
+/// What is the same for all journals of a folder.
 #[derive(Drop)]
-struct Folder<'o, 'a> {
-    alloc: Global,
-    opening: &'o Opening,
-    // the protocol's text
-    protocol: &'o [u8],
-    journal: JournalFolder<'a>,
-    verbose: bool,
+pub(crate) struct Folder<'o, 'a> {
+    pub(crate) alloc: Global,
+    pub(crate) opening: &'o Opening,
+    /// The protocol's text.
+    pub(crate) protocol: &'o [u8],
+    pub(crate) journal: JournalFolder<'a>,
+    pub(crate) verbose: bool,
 }
 
 // The faults of sessions that were refused while others go on. Where it is strict none does.
@@ -86,16 +95,28 @@ impl<'a> Refusals<'a> {
     }
 }
 
-// The folder's file, once no other process has it. Before it was locked another may have removed it.
-fn own_locked<R: Files<File = File>>(rt: &R, folder: &str, path: &str) -> io::Result<File> {
-    let file = open_own(rt, folder, path)?;
+// The folder's file, once no other process has it; `None` where another process removed it before it was locked.
+fn own_locked<R: OwnFiles>(rt: &R, folder: &str, path: &str) -> io::Result<Option<File>> {
+    let file = match open_own(rt, folder, path) {
+        Ok(file) => file,
+        Err(error) if error.kind() == ErrorKind::NotFound => return Ok(None),
+        Err(error) => return Err(error),
+    };
     if let Err(why) = file.try_lock() {
         return Err(io::Error::from(why));
     }
-    if !names(rt, path, &file)? {
-        return Err(io::Error::from(ErrorKind::NotFound));
+    let is_there = names(rt, path, &file).unwrap_or(false);
+    Ok(if is_there { Some(file) } else { None })
+}
+
+// The same, tried again where it was removed.
+fn own_file<R: OwnFiles>(rt: &R, folder: &str, path: &str) -> io::Result<File> {
+    for _ in 0..REMOVALS {
+        if let Some(file) = own_locked(rt, folder, path)? {
+            return Ok(file);
+        }
     }
-    Ok(file)
+    Err(io::Error::from(ErrorKind::NotFound))
 }
 
 // Why a session was not restored, as the program tells it.
@@ -128,11 +149,31 @@ fn lost<'a>(session: u64, error: io::Error) -> ToolFault<'a>
     }
 }
 
-// A session's file, and what was restored from it.
+// Marks the file of so many lines, where they have no seals so far, by a descriptor of its own. Returned is the chain after
+// it.
+fn marked(alloc: Global, file: &File, about: About, lines: u64, chain: Chain) -> io::Result<Chain> {
+    if chain.is_sealed {
+        return Ok(chain);
+    }
+    let unsynced = Arc::new(alloc, AtomicBool::new(false))?;
+    let (sink, disk) = parted(alloc, file.try_clone()?, about, None, unsynced)?;
+    let mut book = Book::new(OverWrite::new(sink), lines, chain.seal);
+    if book.mark(alloc).is_err() {
+        return Err(disk.newest_error());
+    }
+    Ok(Chain {
+        seal: book.seal(),
+        is_sealed: true,
+    })
+}
+
+// A session's file, what was restored from it, and what has to be noted before its first entry, if something has.
 #[derive(Drop)]
 struct RestoredFile {
     file: File,
     restored: Restored,
+    note: Option<Note>,
+    unsynced: Unsynced,
 }
 
 impl<'o, 'a> Folder<'o, 'a> {
@@ -150,7 +191,10 @@ impl<'o, 'a> Folder<'o, 'a> {
 
     // Makes the folder, unless it is there, and opens the file that says which sessions have begun. A folder of another
     // protocol is a fault.
-    fn enter<R: Files<File = File> + AllocGlobal>(&self, rt: &R) -> Result<Begun, ToolFault<'a>>
+    fn enter<R: Files<File = File> + OwnFiles + AllocGlobal>(
+        &self,
+        rt: &R,
+    ) -> Result<Begun, ToolFault<'a>>
         ensures { IfErr result (IsFolderFault self.now.journal.folder.now) }
     {
         let folder = self.journal.folder;
@@ -158,14 +202,30 @@ impl<'o, 'a> Folder<'o, 'a> {
             return Err(unusable(folder, error));
         }
         self.knows_protocol(rt)?;
-        match Begun::open(rt, folder) {
+        match Begun::open(rt, folder, self.journal.sync) {
             Ok(begun) => Ok(begun),
             Err(error) => Err(unusable(folder, error)),
         }
     }
 
-    // Writes the protocol into the folder, where it has none. While the journals were not locked another server may have.
+    // Writes the protocol into the folder, where it has none, while no other server does.
     fn write_protocol<R: Files<File = File> + AllocGlobal>(
+        &self,
+        rt: &R,
+        begun: &Begun,
+    ) -> Result<(), ToolFault<'a>>
+        ensures { IfErr result (IsFolderFault self.now.journal.folder.now) }
+    {
+        if let Err(error) = begun.lock(true) {
+            return Err(unusable(self.journal.folder, error));
+        }
+        let written = self.write_missing(rt);
+        let _unlocked = begun.lock(false);
+        written
+    }
+
+    // The same, once other servers are kept out. One of them may have written it by now.
+    fn write_missing<R: Files<File = File> + AllocGlobal>(
         &self,
         rt: &R,
     ) -> Result<(), ToolFault<'a>>
@@ -184,7 +244,7 @@ impl<'o, 'a> Folder<'o, 'a> {
     }
 
     // Has the disk store what the folder has, where it is synced.
-    fn sync<R: Files<File = File>>(&self, rt: &R, begun: &Begun) -> Result<(), ToolFault<'a>>
+    fn sync<R: Files<File = File>>(&self, rt: &R) -> Result<(), ToolFault<'a>>
         ensures { IfErr result (IsFolderFault self.now.journal.folder.now) }
     {
         if !self.journal.sync {
@@ -192,21 +252,19 @@ impl<'o, 'a> Folder<'o, 'a> {
         }
         let folder = self.journal.folder;
         let parent = format!(in self.alloc; "{folder}/..")?;
-        // the folder first: what has begun has its file
-        let synced = sync_folders(rt, folder, parent.as_str()).and_then(|()| begun.sync());
-        match synced {
+        match sync_folders(rt, folder, parent.as_str()) {
             Ok(()) => Ok(()),
             Err(error) => Err(unusable(folder, error)),
         }
     }
 
     // Opens the journal of the session, and locks it.
-    fn open<R: Files<File = File>>(&self, rt: &R, session: u64) -> Result<File, ToolFault<'a>>
+    fn open<R: OwnFiles>(&self, rt: &R, session: u64) -> Result<File, ToolFault<'a>>
         ensures { IfErr result (IsOneFault session) }
     {
         let folder = self.journal.folder;
         let path = format!(in self.alloc; "{folder}/{session}.journal")?;
-        match own_locked(rt, folder, path.as_str()) {
+        match own_file(rt, folder, path.as_str()) {
             Ok(file) => Ok(file),
             Err(why) => Err(ToolFault::JournalFile {
                 session,
@@ -229,13 +287,14 @@ impl<'o, 'a> Folder<'o, 'a> {
         }
     }
 
-    // The same, with the file. That of a session that has begun ever had the mark: without a line it was lost, and without the
-    // mark another was put in its place.
-    fn restore_one<R: Files<File = File>>(
+    // The same, with the file. A session without a note has begun, and so its file ever had the mark: without a line it was
+    // lost, and without the mark another was put in its place.
+    fn restore_one<R: OwnFiles>(
         &self,
         rt: &R,
-        begun: &Begun,
         session: u64,
+        note: Option<Note>,
+        unsynced: Unsynced,
     ) -> Result<(RestoredRoom, RestoredFile), ToolFault<'a>>
         ensures room { IfOk result
             (λ r. IsRestoredRoom self.now.opening.now.roles (map plain self.now.opening.now.types.items) r.0) }
@@ -243,13 +302,50 @@ impl<'o, 'a> Folder<'o, 'a> {
     {
         let file = self.open(rt, session)?;
         let (room, restored) = self.restore(session, &file)?;
-        if restored.chain.is_sealed || !begun.has(self.alloc, session)? {
-            return Ok((room, RestoredFile { file, restored }));
+        if restored.chain.is_sealed || note.is_some() {
+            let read = RestoredFile {
+                file,
+                restored,
+                note,
+                unsynced,
+            };
+            return Ok((room, read));
         }
         if restored.bytes == 0 {
             return Err(lost(session, io::Error::from(ErrorKind::UnexpectedEof)));
         }
         Err(unrestored(session, RestoreFault::Changed { line: 1 }))
+    }
+
+    /// What has to be noted before the session's first entry, if something has.
+    pub(crate) fn note(
+        &self,
+        begun: &mut Begun,
+        session: u64,
+        unsynced: &Unsynced,
+    ) -> Result<Option<Note>, ToolFault<'a>>
+        ensures fault { IfErr result (IsOneFault session) }
+    {
+        match begun.note(session, unsynced) {
+            Ok(note) => Ok(note),
+            Err(why) => Err(lost(session, why)),
+        }
+    }
+
+    // The same as `restore_one`, by what is known of the sessions that have begun.
+    fn restore_begun<R: OwnFiles>(
+        &self,
+        rt: &R,
+        begun: &mut Begun,
+        session: u64,
+    ) -> Result<(RestoredRoom, RestoredFile), ToolFault<'a>>
+        ensures room { IfOk result
+            (λ r. IsRestoredRoom self.now.opening.now.roles (map plain self.now.opening.now.types.items) r.0) }
+        ensures fault { IfErr result (IsOneFault session) }
+    {
+        let unsynced = Arc::new(self.alloc, AtomicBool::new(false))?;
+        let note = self.note(begun, session, &unsynced)?;
+        self.restore_one(rt, session, note, unsynced)
     }
 
     // The session's room and file; of a session that was refused a new room.
@@ -271,10 +367,10 @@ impl<'o, 'a> Folder<'o, 'a> {
     }
 
     // Restores each session from its file.
-    fn restore_all<R: Files<File = File>>(
+    fn restore_all<R: OwnFiles>(
         &self,
         rt: &R,
-        begun: &Begun,
+        begun: &mut Begun,
         refusals: &mut Refusals<'a>,
     ) -> Result<(Vec<RestoredRoom>, Vec<Option<RestoredFile>>), ToolFault<'a>>
         requires fits { refusals.old.first + refusals.old.sessions < 2 ^ 64 }
@@ -292,7 +388,7 @@ impl<'o, 'a> Folder<'o, 'a> {
         let mut read = Vec::new(self.alloc);
         for place in 0..refusals.sessions {
             let session = refusals.first + place;
-            let done = self.restore_one(rt, begun, session);
+            let done = self.restore_begun(rt, begun, session);
             let (room, file) = self.room_and_file(refusals.or_none(session, done)?)?;
             rooms.push(room)?;
             read.push(file)?;
@@ -302,7 +398,7 @@ impl<'o, 'a> Folder<'o, 'a> {
 
     // Cuts the file to its whole lines. What is cut off is added to a file beside it, `K.cut`; where more is to be told, on
     // standard error it is told how many bytes these are.
-    fn cut<R: Files<File = File> + Eprint>(
+    fn cut<R: OwnFiles + Eprint>(
         &self,
         rt: &R,
         session: u64,
@@ -329,54 +425,50 @@ impl<'o, 'a> Folder<'o, 'a> {
     }
 
     // The keeper of the session, whose file is cut to its whole lines, and marked where its lines had no seals so far.
-    fn keeper<R: Files<File = File> + Eprint>(
+    fn keeper<R: OwnFiles + Eprint>(
         &self,
         rt: &R,
         session: u64,
         read: RestoredFile,
     ) -> io::Result<FileKeeper> {
-        let RestoredFile { file, restored } = read;
+        let RestoredFile {
+            file,
+            restored,
+            note,
+            unsynced,
+        } = read;
         self.cut(rt, session, &file, restored.bytes as u64)?;
         let about = About {
             session,
             sync: self.journal.sync,
             verbose: self.verbose,
         };
-        let (sink, disk) = parted(self.alloc, file, about)?;
-        let Chain { seal, is_sealed } = restored.chain;
-        let mut book = Book::new(OverWrite::new(sink), restored.lines, seal);
-        if !is_sealed && book.mark(self.alloc).is_err() {
-            return Err(disk.newest_error());
-        }
+        let chain = marked(self.alloc, &file, about, restored.lines, restored.chain)?;
+        let (sink, disk) = parted(self.alloc, file, about, note, unsynced)?;
         disk.sync_all()?;
+        let book = Book::new(OverWrite::new(sink), restored.lines, chain.seal);
         Ok(Keeper::new(self.alloc, book, Some(disk))?)
     }
 
-    // The same, once the folder says that the session has begun.
-    fn keep<R: Files<File = File> + Eprint>(
+    // The same, or how the session's journal fails.
+    fn keep<R: OwnFiles + Eprint>(
         &self,
         rt: &R,
-        begun: &mut Begun,
         session: u64,
         read: RestoredFile,
     ) -> Result<FileKeeper, ToolFault<'a>>
         ensures { IfErr result (IsOneFault session) }
     {
-        let kept = match self.keeper(rt, session, read) {
-            Ok(kept) => kept,
-            Err(why) => return Err(lost(session, why)),
-        };
-        match begun.add(self.alloc, session) {
-            Ok(()) => Ok(kept),
+        match self.keeper(rt, session, read) {
+            Ok(kept) => Ok(kept),
             Err(why) => Err(lost(session, why)),
         }
     }
 
     // The keeper of the session, unless it was refused, or is now.
-    fn keep_one<R: Files<File = File> + Eprint>(
+    fn keep_one<R: OwnFiles + Eprint>(
         &self,
         rt: &R,
-        begun: &mut Begun,
         session: u64,
         read: Option<RestoredFile>,
         refusals: &mut Refusals<'a>,
@@ -390,18 +482,62 @@ impl<'o, 'a> Folder<'o, 'a> {
     {
         match read {
             Some(read) => {
-                let done = self.keep(rt, begun, session, read);
+                let done = self.keep(rt, session, read);
                 refusals.or_none(session, done)
             }
             None => Ok(None),
         }
     }
 
-    // The keeper of each session that wasn't refused.
-    fn keep_all<R: Files<File = File> + Eprint>(
+    /// Makes the folder, unless it is there, with its protocol, where it has none, and reads which sessions have begun. A
+    /// folder of another protocol is a fault.
+    pub(crate) fn claim<R: Files<File = File> + OwnFiles + AllocGlobal>(
         &self,
         rt: &R,
-        begun: &mut Begun,
+    ) -> Result<Begun, ToolFault<'a>>
+        ensures fault { IfErr result (IsFolderFault self.now.journal.folder.now) }
+    {
+        let begun = self.enter(rt)?;
+        self.write_protocol(rt, &begun)?;
+        self.sync(rt)?;
+        Ok(begun)
+    }
+
+    /// The room of one session, as its file leaves it, and what records it. The file is made where there is none, and
+    /// locked as long as the keeper lives. A session without a note has begun. In `unsynced` the keeper says later whether a
+    /// sync failed.
+    pub(crate) fn open_one<R: OwnFiles + Eprint>(
+        &self,
+        rt: &R,
+        session: u64,
+        note: Option<Note>,
+        unsynced: Unsynced,
+    ) -> Result<(RestoredRoom, FileKeeper), ToolFault<'a>>
+        ensures room { IfOk result
+            (λ r. IsRestoredRoom self.now.opening.now.roles (map plain self.now.opening.now.types.items) r.0) }
+        ensures fault { IfErr result (IsOneFault session) }
+    {
+        let (room, read) = self.restore_one(rt, session, note, unsynced)?;
+        let kept = self.keep(rt, session, read)?;
+        Ok((room, kept))
+    }
+
+    /// Removes the file of a session that never had an entry, whose keeper still locks it, unless it has more than the mark:
+    /// then another was put in its place.
+    pub(crate) fn remove<R: OwnFiles>(&self, rt: &R, session: u64) -> io::Result<()> {
+        let folder = self.journal.folder;
+        let name = format!(in self.alloc; "{folder}/{session}.journal")?;
+        let about = rt.named_at(name.as_str())?;
+        if about.is_file() && about.len() <= MARK {
+            rt.remove_own(name.as_str())?;
+        }
+        Ok(())
+    }
+
+    // The keeper of each session that wasn't refused.
+    fn keep_all<R: OwnFiles + Eprint>(
+        &self,
+        rt: &R,
         read: Vec<Option<RestoredFile>>,
         refusals: &mut Refusals<'a>,
     ) -> Result<Vec<Option<FileKeeper>>, ToolFault<'a>>
@@ -415,7 +551,7 @@ impl<'o, 'a> Folder<'o, 'a> {
         let mut keepers = Vec::with_capacity(self.alloc, read.len())?;
         for one in read {
             let session = refusals.first + keepers.len() as u64;
-            let kept = self.keep_one(rt, begun, session, one, refusals)?;
+            let kept = self.keep_one(rt, session, one, refusals)?;
             keepers.push_reserved(kept);
         }
         Ok(keepers)
@@ -428,7 +564,7 @@ impl<'o, 'a> Folder<'o, 'a> {
 ///
 /// The journals are locked as long as the keepers live. Where the folder is of another protocol, or it is strict and a line
 /// of a journal isn't accepted, no file is changed; journals that weren't there may have been made, with nothing in them.
-pub fn record_sessions<'a, R: Files<File = File> + AllocGlobal + Eprint>(
+pub fn record_sessions<'a, R: Files<File = File> + OwnFiles + AllocGlobal + Eprint>(
     rt: &R,
     opening: &Opening,
     first: u64,
@@ -460,12 +596,12 @@ pub fn record_sessions<'a, R: Files<File = File> + AllocGlobal + Eprint>(
         faults: Vec::new(alloc),
     };
     let mut begun = of.enter(rt)?;
-    let (rooms, read) = of.restore_all(rt, &begun, &mut refusals)?;
+    let (rooms, read) = of.restore_all(rt, &mut begun, &mut refusals)?;
     if (refusals.faults.len() as u64) < sessions {
-        of.write_protocol(rt)?;
+        of.write_protocol(rt, &begun)?;
     }
-    let keepers = of.keep_all(rt, &mut begun, read, &mut refusals)?;
-    of.sync(rt, &begun)?;
+    let keepers = of.keep_all(rt, read, &mut refusals)?;
+    of.sync(rt)?;
     Ok(Sessions {
         rooms,
         keepers,

@@ -13,6 +13,7 @@ use crate::files::tell;
 use crate::journal_file::FileKeeper;
 use crate::journals::{Sessions, record_sessions};
 use crate::load::load_file;
+use crate::own_files::OwnFiles;
 use crate::rooms::rooms_of;
 use mps_base::write_number;
 use mps_dev::{OverWrite, Sink};
@@ -24,10 +25,14 @@ use std::alloc::{AllocError, Global};
 use std::fs::File;
 use std::io;
 use std::net::{Ipv4Addr, Net, SocketAddr, TcpListener, TcpStream};
+use std::os::fd::AsRawFd;
 use std::rt::Files;
 use std::sync::Wait;
 use std::thread::Threads;
 use std::time::Clock;
+
+// How many connections may wait to be accepted.
+const BACKLOG: i32 = 1_024;
 
 // The line that tells the port.
 fn listening_line(alloc: Global, port: u16) -> Result<Vec<u8>, AllocError>
@@ -54,7 +59,11 @@ fn session_line(alloc: Global, session: u64, entries: u64) -> Result<Vec<u8>, Al
 }
 
 // Tells the port.
-fn tell_port<'a, W: Sink>(alloc: Global, writer: &mut W, port: u16) -> Result<(), ToolFault<'a>>
+pub(crate) fn tell_port<'a, W: Sink>(
+    alloc: Global,
+    writer: &mut W,
+    port: u16,
+) -> Result<(), ToolFault<'a>>
     requires { W.failed_calls writer.old < 2 ^ 62 }
     ensures told { OnOk result (TookOne (IsListeningLine port) (W.taken writer.old) (W.taken writer.new)) }
     ensures fault { IfErr result (IsTellFault 1 0) }
@@ -145,7 +154,7 @@ fn port_of<'a>(listener: &TcpListener, wanted: u16) -> Result<u16, ToolFault<'a>
 }
 
 // A listener at this port of 127.0.0.1, and the port that it has.
-fn listen<'a, R: Net<Listener = TcpListener, Stream = TcpStream>>(
+pub(crate) fn listen<'a, R: Net<Listener = TcpListener, Stream = TcpStream>>(
     rt: &R,
     port: u16,
 ) -> Result<(TcpListener, u16), ToolFault<'a>>
@@ -154,6 +163,8 @@ fn listen<'a, R: Net<Listener = TcpListener, Stream = TcpStream>>(
 {
     match TcpListener::bind(rt, SocketAddr::from((Ipv4Addr::LOCALHOST, port))) {
         Ok(listener) => {
+            // std asks for 128; where the system doesn't let more wait, it stays so
+            let _same = libc::net::listen(listener.as_raw_fd(), BACKLOG);
             let found = port_of(&listener, port)?;
             Ok((listener, found))
         }
@@ -175,7 +186,7 @@ fn unserved<'a>(fault: ServeFault) -> ToolFault<'a>
 
 // Where more is to be told, tells on standard error how many connections were closed since no thread could be started
 // for them, if any were.
-fn tell_lost<R: Eprint>(rt: &R, lost: u64, verbose: bool) {
+pub(crate) fn tell_lost<R: Eprint>(rt: &R, lost: u64, verbose: bool) {
     if verbose && lost > 0 {
         let _told = eprintln!(rt; "lost {lost}");
     }
@@ -296,7 +307,7 @@ pub struct Service<'a> {
 
 // The rooms of so many sessions, of which the first has that number, and what records them, if something does.
 #[tactic(auto, using(crate::proofs::Naming::restored_named))]
-fn sessions_of<'a, R: Files<File = File> + AllocGlobal + Eprint>(
+fn sessions_of<'a, R: Files<File = File> + OwnFiles + AllocGlobal + Eprint>(
     rt: &R,
     opening: &Opening,
     first: u64,
@@ -324,6 +335,16 @@ fn sessions_of<'a, R: Files<File = File> + AllocGlobal + Eprint>(
     }
 }
 
+// Tells a fault on standard error, and why, where more is to be told.
+pub(crate) fn tell_fault<R: AllocGlobal + Eprint>(rt: &R, fault: ToolFault<'_>, verbose: bool) {
+    let fault = if verbose {
+        fault
+    } else {
+        without_reason(fault)
+    };
+    let _told = report(rt, &fault);
+}
+
 // Tells on standard error of each session that was refused, while others are served. Where all were, the first is the fault.
 fn tell_refused<'a, R: AllocGlobal + Eprint>(
     rt: &R,
@@ -340,12 +361,7 @@ fn tell_refused<'a, R: AllocGlobal + Eprint>(
         None
     };
     for fault in refused {
-        let fault = if verbose {
-            fault
-        } else {
-            without_reason(fault)
-        };
-        let _told = report(rt, &fault);
+        tell_fault(rt, fault, verbose);
     }
     match unserved {
         Some(fault) => Err(fault),
@@ -362,6 +378,7 @@ fn serve_from<'a, R>(
 ) -> Result<(), ToolFault<'a>>
 where
     R: Files<File = File>
+        + OwnFiles
         + AllocGlobal
         + Print
         + Eprint
@@ -409,6 +426,7 @@ pub fn serve_file<'a, R>(
 ) -> Result<(), ToolFault<'a>>
 where
     R: Files<File = File>
+        + OwnFiles
         + AllocGlobal
         + Print
         + Eprint

@@ -126,6 +126,32 @@ const ORDERS: &[Words] = &[
         ],
         "Serve { file: \"a.protocol\", port: 0, sessions: 2, first: 9223372036854775808, ",
     ),
+    // a host: how many sessions are open, and, where they are recorded, for how long
+    Words(
+        &["mps_tool", "host", "a.protocol", "--port=0"],
+        "Host { file: \"a.protocol\", port: 0, open: 10000, keep: 10, idle: None, journal: None, verbose: false }",
+    ),
+    Words(
+        &[
+            "mps_tool",
+            "host",
+            "a.protocol",
+            "--port=0",
+            "--journal=kept",
+            "--keep=3",
+            "--open=1048576",
+        ],
+        "Host { file: \"a.protocol\", port: 0, open: 1048576, keep: 3, idle: None, journal: Some(",
+    ),
+    Words(&["mps_tool", "host", "a.protocol"], "2"),
+    Words(
+        &["mps_tool", "host", "a.protocol", "--port=0", "--keep=3"],
+        "2",
+    ),
+    Words(
+        &["mps_tool", "host", "a.protocol", "--port=0", "--open=0"],
+        "2",
+    ),
     // use and version
     Words(&["mps_tool", "--help"], "Offline { task: Help { text: "),
     Words(

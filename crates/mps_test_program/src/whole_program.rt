@@ -513,7 +513,7 @@ fn obeyed<'a, R: Files + Input + AllocGlobal + Print + Eprint>(
 ) -> Result<u8, ToolFault<'a>> {
     match order(rt.alloc(), words)? {
         Order::Offline { task, verbose } => carry_out(rt, task, verbose),
-        Order::Serve { .. } => Err(ToolFault::Bind { why: None }),
+        Order::Serve { .. } | Order::Host { .. } => Err(ToolFault::Bind { why: None }),
     }
 }
 

@@ -1,12 +1,16 @@
 -- What the words may order.
 use Rattle.std.specs.Prelude.{◌≤◌, ◌<◌, ◌^◌, ⊤, IfSome}
 use Rattle.mps_words.specs.declared.command.Order.{Order}
-use Rattle.mps_words.specs.declared.command.Order.TheVariants.{Serve}
+use Rattle.mps_words.specs.declared.command.Order.TheVariants.{Serve, Host}
 
 -- A server has a port and 1 to 16 sessions, of which the first has a number from 1 to 2 ^ 63. Where so many
--- connections are accepted, they are 1 to 64; where one may be idle for so many seconds, they are 1 to 86,400.
+-- connections are accepted, they are 1 to 64; where one may be idle for so many seconds, they are 1 to 86,400. A host has a
+-- port; 1 to 2 ^ 20 sessions may be open, each for 1 to 86,400 seconds in which nobody is in it.
 abbrev pub IsInRange : Order → Type 0
 IsInRange (Serve file port sessions first connections idle journal verbose) =
     (port < 2 ^ 16) × (1 ≤ sessions) × (sessions ≤ 16) × (1 ≤ first) × (first ≤ 2 ^ 63)
     × IfSome connections (λ n. (1 ≤ n) × (n ≤ 64)) × IfSome idle (λ n. (1 ≤ n) × (n ≤ 86400))
+IsInRange (Host file port most keep idle journal verbose) =
+    (port < 2 ^ 16) × (1 ≤ most) × (most ≤ 2 ^ 20) × (1 ≤ keep) × (keep ≤ 86400)
+    × IfSome idle (λ n. (1 ≤ n) × (n ≤ 86400))
 IsInRange order = ⊤

@@ -25,6 +25,21 @@ pub enum Order<'a> {
         /// Whether more is told of what went wrong.
         verbose: bool,
     },
+    /// Open each session of the protocol in the file that somebody joins at that port.
+    Host {
+        file: &'a str,
+        port: u16,
+        /// How many sessions are open at once at most.
+        open: u64,
+        /// For how many seconds a kept session stays open in which nobody is.
+        keep: u64,
+        /// For how many seconds a connection may send no line. `None` is for ever.
+        idle: Option<u64>,
+        /// Where the sessions are kept, if they are.
+        journal: Option<JournalFolder<'a>>,
+        /// Whether more is told of what went wrong.
+        verbose: bool,
+    },
 }
 
 /// Where sessions are kept.

@@ -37,6 +37,8 @@ enum Given {
     Alone,
     // the same, together with that other option
     AloneWith(&'static str),
+    // with a word and together with that other option, or not at all
+    SometimesWith(&'static str),
     // the same, without that other option
     AloneWithout(&'static str),
 }
@@ -193,6 +195,40 @@ const IDLE: Word = Word {
     range: Some(IDLE_SECONDS),
 };
 
+// How many sessions are open at once.
+const OPEN_COUNTS: Range = Range {
+    least: 1,
+    most: 1 << 20,
+};
+
+// How many are, where it isn't given.
+const OPEN_COUNT: u64 = 10_000;
+
+// For how many seconds a session stays open in which nobody is.
+const KEEP_SECONDS: Range = Range {
+    least: 1,
+    most: 86_400,
+};
+
+// For how many it does, where it isn't given.
+const KEEP_TIME: u64 = 10;
+
+// How many sessions may be open.
+const OPEN: Word = Word {
+    name: "open",
+    help: "How many sessions are open at once at most, 1 to 1048576; 10000, if it isn't given",
+    given: Given::Sometimes,
+    range: Some(OPEN_COUNTS),
+};
+
+// How long a session stays open.
+const KEEP: Word = Word {
+    name: "keep",
+    help: "With --journal: for how many seconds a session stays open in which nobody is, 1 to 86400; 10, if it isn't given",
+    given: Given::SometimesWith("journal"),
+    range: Some(KEEP_SECONDS),
+};
+
 // A command of the program, the words that have to follow it, and its options. Of some options one at least is given.
 struct Form {
     name: &'static str,
@@ -242,6 +278,13 @@ const FORMS: &[Form] = &[
         ],
         some_of: &["connections", "endless", "journal"],
     },
+    Form {
+        name: "host",
+        about: "Opens each session that somebody joins",
+        words: &[FILE],
+        options: &[PORT, JOURNAL, SYNC, KEEP, OPEN, IDLE],
+        some_of: &[],
+    },
 ];
 
 // The argument, which takes numbers of the range alone.
@@ -259,7 +302,7 @@ fn argument<'a>(alloc: Global, word: &Word) -> Arg<'a> {
     };
     match word.given {
         Given::Always => argument.required(true),
-        Given::Sometimes => argument,
+        Given::Sometimes | Given::SometimesWith(_) => argument,
         Given::Alone | Given::AloneWith(_) | Given::AloneWithout(_) => {
             argument.action(ArgAction::SetTrue)
         }
@@ -283,7 +326,7 @@ fn verbose<'a>(alloc: Global) -> Result<Arg<'a>, AllocError> {
 fn option<'a>(alloc: Global, word: &Word) -> Result<Arg<'a>, AllocError> {
     let option = argument(alloc, word).long(word.name);
     match word.given {
-        Given::AloneWith(other) => option.requires_arg(other),
+        Given::AloneWith(other) | Given::SometimesWith(other) => option.requires_arg(other),
         Given::AloneWithout(other) => option.conflicts_with(other),
         _ => Ok(option),
     }
@@ -352,14 +395,14 @@ fn bound_in<'a>(found: &ArgMatches<'a>, name: &str, range: Range) -> Option<Opti
     }
 }
 
-// The folder of `--journal`, and whether `--sync` and `--strict` came with it; `None` without `--journal`, where clap lets
-// neither of the two come.
-fn journal_in<'a>(found: &ArgMatches<'a>) -> Option<JournalFolder<'a>> {
+// The folder of `--journal`, and whether `--sync` came with it; `None` without `--journal`, where clap lets no `--sync` come,
+// and no `--strict`.
+fn journal_in<'a>(found: &ArgMatches<'a>, strict: bool) -> Option<JournalFolder<'a>> {
     let folder = found.get_str("journal")?;
     Some(JournalFolder {
         folder,
         sync: found.get_flag("sync"),
-        strict: found.get_flag("strict"),
+        strict,
     })
 }
 
@@ -372,7 +415,7 @@ fn serve_in<'a>(file: &'a str, found: &ArgMatches<'a>) -> Option<Order<'a>>
     let first = bound_in(found, "first", FIRST_NUMBERS)?.unwrap_or(1);
     let connections = bound_in(found, "connections", CONNECTION_COUNTS)?;
     let idle = bound_in(found, "idle", IDLE_SECONDS)?;
-    let journal = journal_in(found);
+    let journal = journal_in(found, found.get_flag("strict"));
     let verbose = found.get_flag(VERBOSE);
     Some(Order::Serve {
         file,
@@ -380,6 +423,27 @@ fn serve_in<'a>(file: &'a str, found: &ArgMatches<'a>) -> Option<Order<'a>>
         sessions,
         first,
         connections,
+        idle,
+        journal,
+        verbose,
+    })
+}
+
+// The order to host sessions of the file's protocol, with what the options were given.
+fn host_in<'a>(file: &'a str, found: &ArgMatches<'a>) -> Option<Order<'a>>
+    ensures { IfSome result IsInRange }
+{
+    let port = number_in(found, "port", PORTS)?;
+    let open = bound_in(found, "open", OPEN_COUNTS)?.unwrap_or(OPEN_COUNT);
+    let keep = bound_in(found, "keep", KEEP_SECONDS)?.unwrap_or(KEEP_TIME);
+    let idle = bound_in(found, "idle", IDLE_SECONDS)?;
+    let journal = journal_in(found, false);
+    let verbose = found.get_flag(VERBOSE);
+    Some(Order::Host {
+        file,
+        port: port as u16,
+        open,
+        keep,
         idle,
         journal,
         verbose,
@@ -409,7 +473,7 @@ fn run_in<'a>(file: &'a str, found: &ArgMatches<'a>) -> Option<Task<'a>> {
     })
 }
 
-// The task of that command; none of `serve`, which is an order of its own, or of an unknown one.
+// The task of that command; none of `serve` and `host`, which are orders of their own, or of an unknown one.
 fn task_in<'a>(command: &str, file: &'a str, found: &ArgMatches<'a>) -> Option<Task<'a>> {
     match command {
         "check" => Some(Task::Check { file }),
@@ -426,8 +490,10 @@ fn order_in<'a>(matches: &ArgMatches<'a>) -> Option<Order<'a>>
 {
     let (command, found) = matches.subcommand()?;
     let file = found.get_str("FILE")?;
-    if command == "serve" {
-        return serve_in(file, found);
+    match command {
+        "serve" => return serve_in(file, found),
+        "host" => return host_in(file, found),
+        _ => {}
     }
     Some(Order::Offline {
         task: task_in(command, file, found)?,

@@ -15,4 +15,5 @@ spawn-started-requires-send-F g c κs within =
     let q = c.type_bounds.sync-G in
     let s = c.type_bounds.send-S in
     let d = c.type_bounds.sync-D in
+    let b = c.type_bounds.sync-B in
     search (sendable, crosses, desk_sync, keeper.the_sync, lobby.the_sync, heap.send, heap.sync, stream.the_send, stream.the_sync) depth 20

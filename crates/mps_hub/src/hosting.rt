@@ -1,0 +1,357 @@
+//! Sessions that are opened when somebody joins, and let go of when nobody is in them.
+ghost use Rattle.std.specs.Prelude.{◌≡◌, ◌≢◌, ◌≤◌, ◌^◌, false, IfOk, IfErr, length};
+ghost use Rattle.mps_hub.specs.Private.Hosting.{IsHosted};
+ghost use Rattle.mps_line.specs.Codes.{code_of};
+
+use crate::attending::{Serving, refuse};
+use crate::door::{Arrival, accept_next};
+use crate::first::{asked_for, first_line};
+use crate::limits::Limits;
+use crate::patience::{RetryingWriter, TimedReader, linger};
+use crate::register::{Entered, Queue, Register};
+use crate::server::{ServeFault, serve_door};
+use crate::sessions::Hub;
+use mps_base::Roles;
+use mps_command::{Answer, Refusal};
+use mps_dev::{OverRead, OverWrite, Sink};
+use mps_keeper::{Disk, Keeper, RestoredRoom, Unguarded};
+use mps_line::Reply;
+use std::alloc::{AllocError, Global};
+use std::marker::PhantomData;
+use std::net::{TcpListener, TcpStream};
+use std::sync::atomic::{AtomicBool, Ordering};
+use std::sync::{Arc, Wait};
+use std::thread;
+use std::thread::{Scope, Threads};
+use std::time::{Clock, Duration};
+
+// For how many milliseconds a server waits after a connection that couldn't be accepted.
+const PAUSE: u64 = 100;
+
+// For how many milliseconds what a client still sends is read that is refused by a session's own thread.
+const BRIEF: u64 = 100;
+
+// For how many seconds the thread of a session that isn't opened any more sleeps at a time.
+const LONG: u64 = 3_600;
+
+/// The greatest number of a session.
+pub const GREATEST: u64 = 1 << 63;
+
+/// A session that was opened.
+#[derive(Drop)]
+pub struct OpenSession<S: Sink, D> {
+    /// What its file led to.
+    pub room: RestoredRoom,
+    /// What records it: one keeper, or none where nothing is recorded.
+    pub keepers: Vec<Option<Keeper<S, D>>>,
+    /// Whether it may not be opened again as long as the server runs, once lines of it were lost.
+    pub barred: Arc<AtomicBool, Global>,
+}
+
+/// Why a session wasn't opened.
+#[derive(Drop)]
+pub struct NotOpened {
+    /// What those are answered who wait for it.
+    pub reply: Reply,
+    /// Whether it may not be opened again as long as the server runs.
+    pub barred: bool,
+}
+
+/// What opens sessions.
+pub trait Host<S: Sink, D> {
+    /// The names of the roles of each session.
+    fn roles(&self) -> &Roles;
+
+    /// Opens the session of that number; or says why not.
+    fn open(&self, session: u64) -> Result<OpenSession<S, D>, NotOpened>
+        requires number { session ≤ 2 ^ 63 }
+        ensures few { IfOk result (λ opened. length opened.keepers.items ≤ 1) }
+        ensures refusal { IfErr result (λ why. code_of why.reply ≢ 0) };
+
+    /// The session is let go of: it has so many entries, and for so many of its connections no thread could be started. What
+    /// records it still lives.
+    fn leave(&self, session: u64, entries: u64, lost: u64);
+}
+
+// How the hosting of a session ended.
+#[derive(Drop)]
+enum Hosted {
+    // it was let go of, and may be opened again
+    Left,
+    // it couldn't be opened: those who wait are told so
+    Shut(Reply),
+    // it may not be opened again
+    Barred,
+}
+
+/// What the connections of a host share.
+#[derive(Drop)]
+pub struct Hosting<'f, R, S: Sink, D, H> {
+    pub rt: &'f R,
+    pub alloc: Global,
+    /// The sessions that are open.
+    pub register: &'f Register,
+    /// What opens them.
+    pub host: &'f H,
+    pub limits: Limits,
+    /// Of what records a session.
+    pub of: PhantomData<Keeper<S, D>>,
+}
+
+impl<
+    'f,
+    R: Threads + Wait + Clock + Eprint + Sync + 'static,
+    S: Sink + Send + Drop + 'static,
+    D: Disk + Sync + Drop + 'static,
+    H: Host<S, D> + Sync,
+> Hosting<'f, R, S, D, H> {
+    // The first line of the connection with its LF; `None` where none came.
+    fn line_of(&self, stream: &TcpStream) -> Option<Vec<u8>> {
+        let timed = TimedReader::new(self.rt, stream, self.limits.first_line(), self.limits.idle)?;
+        let mut line = first_line(self.alloc, &mut OverRead::new(timed)).ok()??;
+        line.push(b'\n').ok()?;
+        Some(line)
+    }
+
+    // The same, while the connection is among those that owe it.
+    fn owed_line(&self, stream: &TcpStream) -> Option<Vec<u8>> {
+        let number = self.register.came(self.rt, stream);
+        let line = self.line_of(stream);
+        if let Some(number) = number {
+            self.register.spoke(self.rt, number);
+        }
+        line
+    }
+
+    // The session that the line asks for, if there may be one, with a role of that name; or why not.
+    fn session_of(&self, line: &[u8]) -> Result<u64, Reply>
+        ensures number { IfOk result (λ session. session ≤ 2 ^ 63) }
+        ensures refusal { IfErr result (λ reply. code_of reply ≢ 0) }
+    {
+        let Some((_, kept)) = line.split_last() else {
+            return Err(Reply::BadLine);
+        };
+        let Some((session, name)) = asked_for(kept) else {
+            return Err(Reply::BadLine);
+        };
+        if session == 0 || session > GREATEST {
+            return Err(Reply::NoSession);
+        }
+        match self.host.roles().find(&name) {
+            Some(_) => Ok(session),
+            None => Err(Reply::NoRole),
+        }
+    }
+
+    // Tells the client why it isn't let in, reads for so long what it still sends, and closes the connection.
+    fn refuse(&self, stream: TcpStream, reply: &Reply, time: Duration)
+        requires { code_of reply.now ≢ 0 }
+    {
+        let _told = stream.set_nodelay(true);
+        let mut writer = OverWrite::new(RetryingWriter { stream: &stream });
+        let _refused = refuse(self.alloc, &mut writer, reply);
+        linger(self.rt, &stream, time);
+    }
+
+    // Attends to a connection that came, up to where it is let in to its session.
+    fn receive(&self, stream: TcpStream) {
+        match self.owed_line(&stream) {
+            Some(ahead) => match self.session_of(ahead.as_slice()) {
+                Ok(session) => self.enter(session, Arrival { stream, ahead }),
+                Err(reply) => self.turn_back(stream, &reply),
+            },
+            None => {
+                drop(stream);
+                self.register.ended(self.rt);
+            }
+        }
+    }
+
+    // Refuses a connection that wasn't let in.
+    fn turn_back(&self, stream: TcpStream, reply: &Reply)
+        requires { code_of reply.now ≢ 0 }
+    {
+        self.refuse(stream, reply, Duration::from_secs(1));
+        self.register.ended(self.rt);
+    }
+
+    // Has the arrival let in to the session, which is opened if it isn't.
+    fn enter(&self, session: u64, arrival: Arrival)
+        requires { session ≤ 2 ^ 63 }
+    {
+        match self.register.enter(self.rt, self.alloc, session, arrival) {
+            Entered::Waits => {}
+            Entered::First(told) => self.keep(&Queue::new(self.register, session, told)),
+            Entered::Full(arrival) => self.turn_back(arrival.stream, &Reply::Busy),
+            Entered::Barred(arrival) => self.turn_back(arrival.stream, &Reply::Unkept),
+            Entered::Memory(arrival) => {
+                drop(arrival);
+                self.register.ended(self.rt);
+            }
+        }
+    }
+
+    // Serves the session to those who come, until the queue is over. Says for how many of them no thread could be started.
+    fn serve(
+        &self,
+        queue: &Queue<'_>,
+        hub: &mut Hub,
+        keepers: &[Option<Keeper<S, D>>],
+    ) -> Result<u64, ServeFault>
+        requires given { hub.old.given ≡ false }
+        requires recorded { length keepers.now ≤ length hub.old.cells }
+        ensures same { hub.new.cells ≡ hub.old.cells }
+    {
+        let desk = match hub.deal() {
+            Some(deal) => match hub.desk_of(self.alloc, deal) {
+                Ok(desk) => desk,
+                Err(_) => return Err(ServeFault::Memory),
+            },
+            None => unreachable!(),
+        };
+        let serving = Serving {
+            rt: self.rt,
+            alloc: self.alloc,
+            desk: &desk,
+            gate: &Unguarded,
+            keepers,
+        };
+        let served = serve_door(&serving, queue, self.limits)?;
+        Ok(served.lost)
+    }
+
+    // The session is let go of. Where it has no room, a call never gave it back.
+    fn leave(&self, session: u64, hub: Hub, lost: u64) -> Result<(), AllocError> {
+        let mut rooms = hub.close(self.alloc)?;
+        if let Some(Some(room)) = rooms.pop() {
+            self.host.leave(session, room.entries(), lost);
+        }
+        Ok(())
+    }
+
+    // Serves the session that was opened until the queue is over. When this returns nothing of it is held any more.
+    fn serve_opened(
+        &self,
+        queue: &Queue<'_>,
+        opened: OpenSession<S, D>,
+    ) -> Result<Hosted, AllocError>
+        requires few { length opened.keepers.items ≤ 1 }
+        ensures hosted { IfOk result IsHosted }
+    {
+        let OpenSession {
+            room,
+            keepers,
+            barred,
+        } = opened;
+        let names = room.room.names().copy(self.alloc)?;
+        let mut rooms = Vec::with_capacity(self.alloc, 1)?;
+        rooms.push_reserved(room);
+        let mut hub = Hub::of_restored(self.alloc, &names, queue.number(), rooms)?;
+        match self.serve(queue, &mut hub, keepers.as_slice()) {
+            Ok(lost) => {
+                self.leave(queue.number(), hub, lost)?;
+                Ok(Hosted::Left)
+            }
+            // what records it is kept, so that no other process opens its file
+            Err(ServeFault::NoneLeft) if barred.load(Ordering::SeqCst) => {
+                self.keep_out(queue.number());
+                Ok(Hosted::Barred)
+            }
+            Err(ServeFault::NoneLeft) => Ok(Hosted::Left),
+            Err(_) => Err(AllocError),
+        }
+    }
+
+    // Opens the session of the queue, and serves it until the queue is over.
+    fn host_session(&self, queue: &Queue<'_>) -> Hosted
+        ensures { IsHosted result }
+    {
+        match self.host.open(queue.number()) {
+            Ok(opened) => match self.serve_opened(queue, opened) {
+                Ok(hosted) => hosted,
+                Err(AllocError) => Hosted::Shut(Reply::Answer(Answer::Refused(Refusal::Memory))),
+            },
+            Err(NotOpened { barred: true, .. }) => Hosted::Barred,
+            Err(NotOpened { reply, .. }) => Hosted::Shut(reply),
+        }
+    }
+
+    // Lets nobody in to the session any more, and stays.
+    fn keep_out(&self, session: u64) {
+        self.register.bar(self.rt, session);
+        self.turn_away(session, &Reply::Unkept);
+        for _ in self.rt.forever() {
+            thread::sleep(self.rt, Duration::from_secs(LONG));
+        }
+    }
+
+    // Opens the session as long as somebody wants it.
+    fn keep(&self, queue: &Queue<'_>) {
+        for _ in self.rt.forever() {
+            match self.host_session(queue) {
+                Hosted::Left => {}
+                Hosted::Shut(reply) => self.turn_away(queue.number(), &reply),
+                Hosted::Barred => {
+                    self.register.bar(self.rt, queue.number());
+                    return self.turn_away(queue.number(), &Reply::Unkept);
+                }
+            }
+            if self.register.leave(self.rt, queue.number()) {
+                return;
+            }
+        }
+    }
+
+    // Refuses those who wait for the session by now.
+    fn turn_away(&self, session: u64, reply: &Reply)
+        requires { code_of reply.now ≢ 0 }
+    {
+        for arrival in self.register.turn_away(self.rt, self.alloc, session) {
+            self.refuse(arrival.stream, reply, Duration::from_millis(BRIEF));
+            self.register.parted(self.rt);
+        }
+    }
+}
+
+// Accepts connections, a thread of the scope for each.
+fn accept_all<
+    's,
+    E,
+    R: Threads + Wait + Clock + Eprint + Sync + 'static,
+    S: Sink + Send + Drop + 'static,
+    D: Disk + Sync + Drop + 'static,
+    H: Host<S, D> + Sync,
+>(scope: &Scope<'s, E>, hosting: &'s Hosting<'s, R, S, D, H>, listener: &TcpListener) {
+    let rt = hosting.rt;
+    let register = hosting.register;
+    for _ in 0..hosting.limits.connections.unwrap_or(u64::MAX) {
+        register.lets_in(rt);
+        match accept_next(listener) {
+            Ok(stream) => {
+                if scope.spawn(move || hosting.receive(stream)).is_err() {
+                    register.ended(rt);
+                    register.make_way(rt);
+                }
+            }
+            Err(_) => {
+                register.ended(rt);
+                register.make_way(rt);
+                thread::sleep(rt, Duration::from_millis(PAUSE));
+            }
+        }
+    }
+    register.close(rt);
+}
+
+/// Accepts connections, and has the host open the session of each, unless it is open. It returns when as many have ended as
+/// are accepted, and all sessions are let go of.
+pub fn host_all<
+    R: Threads + Wait + Clock + Eprint + Sync + 'static,
+    S: Sink + Send + Drop + 'static,
+    D: Disk + Sync + Drop + 'static,
+    H: Host<S, D> + Sync,
+>(hosting: &Hosting<'_, R, S, D, H>, listener: &TcpListener) {
+    thread::scope(thread::scope_env(), hosting.rt, move |scope| {
+        accept_all(scope, hosting, listener)
+    });
+}

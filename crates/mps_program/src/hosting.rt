@@ -1,0 +1,306 @@
+//! Sessions that are opened on demand.
+ghost use Rattle.std.specs.Prelude.{◌≡◌, ◌≢◌, ◌≤◌, ◌^◌, false, IfErr, IfOk, length};
+ghost use Rattle.std.specs.Option.{option_map};
+ghost use Rattle.mps_line.specs.Codes.{code_of};
+ghost use Rattle.mps_program.specs.Faults.{without};
+ghost use Rattle.mps_program.specs.Hosted.{IsHostFault};
+ghost use Rattle.mps_program.specs.Journals.{IsFolderFault, IsOneFault};
+
+use crate::faults::{ToolFault, told};
+use crate::folder::Begun;
+use crate::journal_file::{FileKeeper, JournalDisk, JournalFile, Unsynced};
+use crate::journals::Folder;
+use crate::load::load_file;
+use crate::own_files::OwnFiles;
+use crate::rooms::room_of;
+use crate::serving::{listen, tell_fault, tell_lost, tell_port};
+use mps_base::Roles;
+use mps_command::{Answer, Refusal};
+use mps_dev::OverWrite;
+use mps_hub::{Host, Hosting, Limits, NotOpened, OpenSession, Register, RestoredRoom, host_all};
+use mps_line::Reply;
+use mps_open::Opening;
+use mps_text::write_protocol;
+use mps_words::JournalFolder;
+use std::fs::File;
+use std::io;
+use std::io::ErrorKind;
+use std::marker::PhantomData;
+use std::net::{Net, TcpListener, TcpStream};
+use std::rt::Files;
+use std::sync::atomic::{AtomicBool, Ordering};
+use std::sync::{Arc, Mutex, Wait};
+use std::thread::Threads;
+use std::time::{Clock, Duration};
+
+/// How sessions are hosted: the port, how many may be open, for how long one stays open in which nobody is, the limits of
+/// connections, and where the sessions are recorded, if they are.
+#[derive(Clone, Copy)]
+pub struct HostService<'a> {
+    pub port: u16,
+    pub open: u64,
+    pub keep: Duration,
+    pub limits: Limits,
+    pub journal: Option<JournalFolder<'a>>,
+}
+
+// Where the sessions are recorded, and which of them have begun.
+#[derive(Drop)]
+struct Records<'a> {
+    journal: JournalFolder<'a>,
+    begun: Mutex<Begun>,
+}
+
+// What all sessions have in common, over what opens their files.
+#[derive(Drop)]
+struct House<'o, 'a, F> {
+    rt: &'o F,
+    opening: &'o Opening,
+    // the protocol's text
+    protocol: &'o [u8],
+    records: Option<Records<'a>>,
+    verbose: bool,
+}
+
+impl<'o, 'a, F: OwnFiles + AllocGlobal + Eprint + Wait> House<'o, 'a, F> {
+    // The folder with that journal.
+    fn folder(&self, journal: JournalFolder<'a>) -> Folder<'o, 'a> {
+        Folder {
+            alloc: self.rt.alloc(),
+            opening: self.opening,
+            protocol: self.protocol,
+            journal,
+            verbose: self.verbose,
+        }
+    }
+
+    // The room of the session, as its file leaves it, and what records it.
+    fn recorded(
+        &self,
+        records: &Records<'a>,
+        session: u64,
+        unsynced: Unsynced,
+    ) -> Result<(RestoredRoom, FileKeeper), ToolFault<'a>>
+        ensures fault { IfErr result (IsOneFault session) }
+    {
+        let folder = self.folder(records.journal);
+        let mut begun = records.begun.lock(self.rt);
+        let note = folder.note(&mut begun, session, &unsynced)?;
+        drop(begun);
+        folder.open_one(self.rt, session, note, unsynced)
+    }
+
+    // The session, as its file leaves it, or a new one where nothing is recorded. In `barred` it is noted where a sync failed.
+    fn opened(
+        &self,
+        session: u64,
+        barred: Unsynced,
+    ) -> Result<OpenSession<OverWrite<JournalFile>, JournalDisk>, ToolFault<'a>>
+        ensures few { IfOk result (λ opened. length opened.keepers.items ≤ 1) }
+        ensures fault { IfErr result (IsOneFault session) }
+    {
+        let alloc = self.rt.alloc();
+        let mut keepers = Vec::with_capacity(alloc, 1)?;
+        let room = match &self.records {
+            Some(records) => {
+                let (room, keeper) = self.recorded(records, session, Arc::try_clone(&barred)?)?;
+                keepers.push_reserved(Some(keeper));
+                room
+            }
+            None => room_of(alloc, self.opening)?,
+        };
+        Ok(OpenSession {
+            room,
+            keepers,
+            barred,
+        })
+    }
+
+    // Opens the session.
+    fn tried(&self, session: u64) -> Tried<'a>
+        ensures few { IfOk result.0 (λ opened. length opened.keepers.items ≤ 1) }
+    {
+        let Ok(barred) = Arc::new(self.rt.alloc(), AtomicBool::new(false)) else {
+            return (Err(ToolFault::Memory), false);
+        };
+        let Ok(other) = Arc::try_clone(&barred) else {
+            return (Err(ToolFault::Memory), false);
+        };
+        let done = self.opened(session, other);
+        (done, barred.load(Ordering::SeqCst))
+    }
+}
+
+// What opening a session comes to, and whether it may not be tried again.
+type Tried<'a> = (
+    Result<OpenSession<OverWrite<JournalFile>, JournalDisk>, ToolFault<'a>>,
+    bool,
+);
+
+// Whether another process has the session's file.
+fn is_elsewhere(fault: &ToolFault<'_>) -> bool {
+    match fault {
+        ToolFault::JournalFile { why: Some(why), .. } => why.kind() == ErrorKind::WouldBlock,
+        _ => false,
+    }
+}
+
+// What those are told who wait for a session that can't be opened.
+fn reply_to(fault: &ToolFault<'_>) -> Reply
+    ensures { code_of result ≢ 0 }
+{
+    if is_elsewhere(fault) {
+        return Reply::Elsewhere;
+    }
+    match fault {
+        ToolFault::Memory => Reply::Answer(Answer::Refused(Refusal::Memory)),
+        _ => Reply::Unkept,
+    }
+}
+
+impl<'o, 'a, F: OwnFiles + AllocGlobal + Eprint + Wait> Host<OverWrite<JournalFile>, JournalDisk>
+    for House<'o, 'a, F> {
+    fn roles(&self) -> &Roles {
+        &self.opening.roles
+    }
+
+    // That another process has a session is no fault to be told.
+    fn open(
+        &self,
+        session: u64,
+    ) -> Result<OpenSession<OverWrite<JournalFile>, JournalDisk>, NotOpened> {
+        let (done, barred) = self.tried(session);
+        match done {
+            Ok(opened) => Ok(opened),
+            Err(fault) => {
+                let reply = reply_to(&fault);
+                if !is_elsewhere(&fault) {
+                    tell_fault(self.rt, fault, self.verbose);
+                }
+                Err(NotOpened { reply, barred })
+            }
+        }
+    }
+
+    // A session that never had an entry leaves no file.
+    fn leave(&self, session: u64, entries: u64, lost: u64) {
+        tell_lost(self.rt, lost, self.verbose);
+        let Some(records) = &self.records else {
+            return;
+        };
+        if entries > 0 {
+            return;
+        }
+        let mut begun = records.begun.lock(self.rt);
+        // one that has begun keeps its file, also where its first entry wasn't written
+        if let Ok(false) = begun.has(session) {
+            let _gone = self.folder(records.journal).remove(self.rt, session);
+        }
+    }
+}
+
+// How the sessions are recorded in the folder, which gets their protocol where it has none.
+fn records_of<'a, R: Files<File = File> + OwnFiles + AllocGlobal>(
+    rt: &R,
+    opening: &Opening,
+    protocol: &[u8],
+    journal: JournalFolder<'a>,
+    verbose: bool,
+) -> Result<Records<'a>, ToolFault<'a>>
+    ensures fault { IfErr result (IsFolderFault journal.entry.folder.now) }
+{
+    let folder = Folder {
+        alloc: rt.alloc(),
+        opening,
+        protocol,
+        journal,
+        verbose,
+    };
+    Ok(Records {
+        journal,
+        begun: Mutex::new(folder.claim(rt)?),
+    })
+}
+
+// Hosts sessions of the protocol in the file at a port of 127.0.0.1. A fault says what the system says of it.
+fn host_from<'a, R>(
+    rt: &R,
+    file: &'a str,
+    service: HostService<'a>,
+    verbose: bool,
+) -> Result<(), ToolFault<'a>>
+where
+    R: Files<File = File>
+        + OwnFiles
+        + AllocGlobal
+        + Print
+        + Eprint
+        + Net<Listener = TcpListener, Stream = TcpStream>
+        + Clock
+        + Threads
+        + Wait
+        + Sync
+        + 'static,
+    ensures fault { IfErr result
+        (IsHostFault file.now (option_map (λ j. j.folder.now) service.entry.journal)) }
+{
+    let alloc = rt.alloc();
+    let opening = load_file(rt, file)?;
+    let protocol = write_protocol(alloc, &opening.protocol)?;
+    let protocol = protocol.as_slice();
+    let records = match service.journal {
+        Some(journal) => Some(records_of(rt, &opening, protocol, journal, verbose)?),
+        None => None,
+    };
+    let house = House {
+        rt,
+        opening: &opening,
+        protocol,
+        records,
+        verbose,
+    };
+    let keep = service.journal.map(|_| service.keep);
+    let register = Register::new(alloc, service.open, keep);
+    let (listener, found) = listen(rt, service.port)?;
+    tell_port(alloc, &mut OverWrite::new(io::writer(rt)), found)?;
+    let hosting = Hosting {
+        rt,
+        alloc,
+        register: &register,
+        host: &house,
+        limits: service.limits,
+        of: PhantomData,
+    };
+    host_all(&hosting, &listener);
+    Ok(())
+}
+
+/// Hosts sessions of the protocol in the file at a port of 127.0.0.1: each is opened when somebody joins it. Where more is to
+/// be told (`verbose`), a fault says what the system says of it.
+///
+/// The protocol is read and checked, and the folder gets it where it has none, before the port is bound. Then this ends with
+/// the process.
+pub fn host_file<'a, R>(
+    rt: &R,
+    file: &'a str,
+    service: HostService<'a>,
+    verbose: bool,
+) -> Result<(), ToolFault<'a>>
+where
+    R: Files<File = File>
+        + OwnFiles
+        + AllocGlobal
+        + Print
+        + Eprint
+        + Net<Listener = TcpListener, Stream = TcpStream>
+        + Clock
+        + Threads
+        + Wait
+        + Sync
+        + 'static,
+    ensures fault { IfErr result
+        (IsHostFault file.now (option_map (λ j. j.folder.now) service.entry.journal)) }
+    ensures quiet { verbose ≡ false → IfErr result (λ fault. without fault ≡ fault) }
+{
+    told(host_from(rt, file, service, verbose), verbose)
+}
