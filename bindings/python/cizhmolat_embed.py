@@ -15,7 +15,8 @@ methods, which raise the same exceptions. So a program that was written for a se
     session = Room(protocol)
 
 in place of `from cizhmolat import Role` and `session = 1`. What speaks of the connection (`port`, `host`, `numbers`, `timeout`,
-`patience`) may stand there still, and does nothing: an answer can't be lost.
+`patience`) may stand there still, and does nothing: an answer can't be lost. Where TakenBack is raised the command wasn't run,
+a commit neither, since nobody else acts between the news and the command.
 
 A room has one call at a time, by a lock, so its Roles may be used in threads, each Role in one at a time. A receipt and a pick
 wait for what other threads send, as at a server: NothingQueued is raised when nothing has come in `timeout` seconds.
@@ -26,14 +27,13 @@ from __future__ import annotations
 
 import ctypes
 import os
-import re
 import threading
 import time
 from pathlib import Path
 from typing import Any
 
 import cizhmolat
-from cizhmolat import Error, count, name, read
+from cizhmolat import Error, News, count, name
 
 __all__ = ["BadProtocol", "NoMemory", "Role", "Room"]
 
@@ -204,7 +204,8 @@ class Role(cizhmolat.Role):
                  timeout: float = 0, patience: float = 0) -> None:
         self.session, self.role = session, name(role)
         self.resumed = None
-        self._read("news 0", r"news.*")
+        self._heard, self._is_settled = 0, True  # no command is ever under way
+        self.news()  # what went before is told here
 
     def close(self) -> None:
         """Does nothing: the room is closed by itself."""
@@ -229,13 +230,20 @@ class Role(cizhmolat.Role):
                 self.session._accepted[self.role] = self.newest + 1
         return answer
 
-    def _poll(self, command: str, form: str, timeout: float) -> re.Match[str]:
-        """The answer to a command that is given again, while nothing waits, after each command that others had accepted."""
-        until = time.monotonic() + timeout
+    def _ask(self, command: str, limit: float, *questions: str) -> list[str]:
+        """The answer to a command line, and those to questions; nobody acts between them."""
+        with self.session._turn:
+            return [self.ask(command), *map(self.ask, questions)]
+
+    def _poll(self, command: str, until: float) -> tuple[str, News]:
+        """The answer to a command, and the news before it. Where steps are gone the command isn't given, and has no answer. While
+        nothing waits it is given again after each command that others had accepted."""
+        question = f"news {self._heard}"
         with self.session._turn:
             while True:
-                answer = self.ask(command)
+                news = self._news(question, self.ask(question))
+                answer = "" if news.gone else self.ask(command)
                 left = until - time.monotonic()
                 if answer != "refused nothingqueued" or left <= 0:
-                    return read(command, answer, form)
+                    return answer, news
                 self.session._turn.wait(min(left, threading.TIMEOUT_MAX))

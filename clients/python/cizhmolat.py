@@ -39,6 +39,22 @@ protocol wants of the role next, which values it keeps, and which steps it did, 
 Without `settle` a new command that is spelled like the one under way would be taken for it: it would get the old answer, and
 not be run.
 
+**Steps that others took back.** Where others take back steps of a role, these are its last ones, from a receipt or a pick on,
+and it stands at that one again. A send or a choice that was meant for a later place is then refused, as WrongAct, an undo or a
+rollback of a step that is gone as NoStep, and `news` or `standing` tells why. But a receipt or a pick may be accepted as the act
+of the earlier place, as in a loop, and a mark, a commit and a return to a mark are accepted anywhere. So `receive`, `pick`,
+`mark`, `commit` and `back` ask for news in the same write, after the command, and raise TakenBack where steps are gone of which
+the role hasn't heard. What a receipt, a pick or a mark did is put back before that, by an undo, and its message waits again. A
+commit and a return to a mark can't be put back: they ask before the command too, a round trip more, and don't give it where
+steps are gone. Where steps go in between, TakenBack has its answer. So when such a method returns, the program has been told of
+all that others took back before its command. `ask` gives a line alone, and tells nothing of this.
+
+A role has heard of what TakenBack, `news` and `standing` told it. How far that is stands in the file from its next command on.
+So a program that is started again with that file hears what went while it was away, and once more what it was told just before
+it ended. A Role without a file, and the first one with it, hears what goes after it was made. Where a program ends, or loses
+the server, while a receipt is put back, `standing` tells whether it stands; else its message waits. So no message is lost, and
+none is received twice.
+
 A Role is used by one thread at a time. Only this module's own exceptions and ValueError, for words that no line can have, no
 port and a file of another role, are raised; a refusal has the class of its name, such as NothingQueued, and the session is
 then as it was.
@@ -52,14 +68,15 @@ import os
 import re
 import socket
 import time
-from collections.abc import Callable, Iterator
-from typing import Any, NamedTuple, TypeVar, Union
+from collections.abc import Callable, Iterator, Sequence
+from typing import Any, NamedTuple, NoReturn, TypeVar, Union
 
 Value = Union[bool, int, str]
 Made = TypeVar("Made")
 NAME = re.compile("(?!(?:roles|rec|end|int|bool|text|true|false)$)[a-z][a-z0-9_]{0,31}")
 TEXT = re.compile(r"[ !#-\[\]-~]{0,256}")
 ANSWER = re.compile(r"(?:done|undone|news|joined|refused)\b.*|\{.*\}")  # what any answer looks like
+DONE, UNDONE = r"done (\d+)", r"undone((?: \d+)*)"  # answers to a step forward, and to steps back
 QUESTIONS = ("news", "show")  # which change nothing, and have no number
 FULL = 100_000  # entries that a journal has at most
 LONGEST = 2_000_000  # seconds that each system's sockets take as a limit: 23 days
@@ -81,6 +98,21 @@ class NotUnderstood(Error):
 class NotKept(Error):
     """The file of numbers can't be read or written, as on a full disk. As with Unreachable, the command may have been run, or
     not, and whoever gives it again has it run once."""
+
+
+class TakenBack(Error):
+    """Others took back steps of the role: `gone` has the numbers of those of which it hadn't heard, the earliest taken back first.
+    The command's own step may be among them. The command wasn't run, or was put back, unless `answer` is there, which is its
+    answer: then it is a commit or a return to a mark, which stands, or this exception has a cause, which came while the command
+    was put back, so that it may stand."""
+
+    def __init__(self, gone: list[int], command: str = "", answer: str | None = None) -> None:
+        super().__init__(gone, command, answer)  # of which pickle and copy make it again
+        self.gone, self.command, self.answer = gone, command, answer
+
+    def __str__(self) -> str:
+        told = f"others took back {' '.join(map(str, self.gone))}"
+        return told if self.answer is None else f"{told}, and {self.command} was answered {self.answer}"
 
 
 class Refused(Error):
@@ -156,7 +188,7 @@ class NoMark(Refused):
 
 
 class Full(Refused):
-    """The session's journal has as many entries as it may have."""
+    """The session has as many entries as it takes, or the role has made its share of them."""
     word = "full"
 
 
@@ -292,6 +324,11 @@ def count(number: int) -> int:
     return int.__int__(number)
 
 
+def steps(words: str) -> list[int]:
+    """The numbers of steps in an answer."""
+    return [int(word) for word in words.split()]
+
+
 def read(command: str, answer: str, form: str) -> re.Match[str]:
     """The parts of the answer to a command, which has to have this form; a refusal is raised."""
     found = re.fullmatch(form, answer)
@@ -342,54 +379,56 @@ class Connection:
             pass
         return True
 
-    def talk(self, line: str, until: float) -> str:
-        """The answer to a line, which has to be there until then."""
+    def talk(self, lines: Sequence[str], until: float) -> list[str]:
+        """The answers to these lines, which are sent in one write. They have to be there until then."""
         self._socket.settimeout(left(until))
-        self._socket.sendall(line.encode("ascii") + b"\n")
-        answer = bytearray()
-        while not answer.endswith(b"\n"):
+        self._socket.sendall("".join(f"{line}\n" for line in lines).encode("ascii"))
+        came, ends = bytearray(), 0
+        while ends < len(lines):
             self._socket.settimeout(left(until))  # for each piece, lest a server that trickles is waited for without end
             piece = self._socket.recv(65536)
             if not piece:
                 raise ConnectionError("the connection broke")
-            answer += piece
-        text = answer[:-1].decode("ascii", errors="replace")
-        if not text.isascii() or not ANSWER.fullmatch(text):
-            raise NotUnderstood(f"{bytes(answer[:100])!r}, to {line}")
-        return text
+            came += piece
+            ends += piece.count(b"\n")
+        *answers, rest = came.decode("ascii", errors="replace").split("\n")
+        if rest or len(answers) > len(lines) or not all(it.isascii() and ANSWER.fullmatch(it) for it in answers):
+            raise NotUnderstood(f"{bytes(came[:100])!r}, to {', '.join(lines)}")
+        return answers
 
 
 class Numbers:
-    """The newest number of a role, and the command under way, in a file.
+    """The newest number of a role, how many entries of the journal it has heard of, and the command under way, in a file.
 
-    The file has a line `SESSION ROLE NUMBER`, and a second one with the command that was given under the next number, until
-    its answer is returned, another command is given, or `settle` lets go of it. It is replaced as a whole. It is of one
-    session: take another file for another one."""
+    The file has a line `SESSION ROLE NUMBER ENTRIES`, and a second one with the command that was given under the next number,
+    until its answer is returned, another command is given, or `settle` lets go of it. It is replaced as a whole. It is of one
+    session: take another file for another one. Files of earlier clients have no ENTRIES, which counts as 0."""
 
     def __init__(self, path: str | os.PathLike[str] | None, owner: str) -> None:
         self.path = None if path is None else os.fsdecode(path)
-        self.owner, self.newest = owner, 0
+        self.owner, self.newest, self.heard = owner, 0, 0
         self.command: str | None = None
         text = self._text()
         self.is_known = text is not None
         if text is not None:
             first, _, rest = text.partition("\n")
-            found = re.fullmatch(r"(\d+ \w+) (\d+)", first)
+            found = re.fullmatch(r"(\d+ \w+) (\d+)(?: (\d+))?", first)
             if found is None or found[1] != owner:
                 raise ValueError(f"{self.path} has no numbers of {owner}")
-            self.newest, self.command = int(found[2]), rest.rstrip("\n") or None
+            self.newest, self.heard, self.command = int(found[2]), int(found[3] or 0), rest.rstrip("\n") or None
 
-    def keep(self, newest: int, command: str | None = None) -> None:
-        """Keeps the newest number, and the command under way. Where the file can't be written nothing has changed."""
+    def keep(self, newest: int, heard: int, command: str | None = None) -> None:
+        """Keeps the newest number, how many entries were heard of, and the command under way. Where the file can't be written
+        nothing has changed."""
         if self.path is not None:
             beside = f"{self.path}.new"
             try:
                 with open(beside, "w", encoding="ascii") as file:
-                    file.write(f"{self.owner} {newest}\n" + (f"{command}\n" if command else ""))
+                    file.write(f"{self.owner} {newest} {heard}\n" + (f"{command}\n" if command else ""))
                 os.replace(beside, self.path)
             except OSError as error:
                 raise NotKept(f"{self.path} can't be written: {error}") from error
-        self.newest, self.command, self.is_known = newest, command, True
+        self.newest, self.heard, self.command, self.is_known = newest, heard, command, True
 
     def _text(self) -> str | None:
         """What is in the file, if there is one. A byte that isn't ASCII stands in no file of numbers."""
@@ -417,8 +456,8 @@ class Role:
     Each time may be math.inf, also that of a receipt: then the waiting has no limit.
 
     `resumed` has the command whose answer no program got, if that command was accepted. A program whose first command is the
-    same one gets that answer, and nothing is run a second time, also where `resumed.survives` is False, since the step was
-    taken back meanwhile. With any other command it goes on. `settle` lets go of that command: call it where the same words
+    same one gets that answer, or TakenBack, and nothing is run a second time, also where `resumed.survives` is False, since
+    the step was taken back meanwhile. With any other command it goes on. `settle` lets go of that command: call it where the same words
     would be a new one."""
 
     def __init__(self, session: int, role: str, port: int, *, host: str = "127.0.0.1",
@@ -431,9 +470,13 @@ class Role:
         self._numbers = Numbers(numbers, f"{self.session} {self.role}")
         self.resumed: Answered | None = None
         self._newest = self._numbers.newest  # one more than in the file, while `resumed` has the command that is there
+        self._heard = self._numbers.heard  # in the file from the next command on
         self._is_settled = False  # whether the newest number is known, and is the session's as long as the connection lasts
+        is_new = not self._numbers.is_known
         try:
             self._settle(math.inf)
+            if is_new:
+                self.news()  # what went before is told here
         except BaseException:
             self.close()
             raise
@@ -450,7 +493,7 @@ class Role:
             self._connection.close()
         self._connection, self._is_settled = None, False
 
-    # --- Steps forward ---
+    # --- Steps forward, of which `receive`, `pick`, `mark` and `commit` raise TakenBack where steps of the role are gone ---
 
     def send(self, peer: str, value: Value) -> int:
         """Sends the peer a value, and gives the number of the step."""
@@ -462,45 +505,54 @@ class Role:
 
     def receive(self, peer: str, slot: str, timeout: float = 60) -> Received:
         """Receives the oldest value that waits from the peer, and keeps it in the slot. Where none waits the server is asked
-        again, with pauses that grow from 2 ms to 0.5 s; NothingQueued is raised when none has come in `timeout` seconds, and
-        Unreachable when the server didn't answer."""
-        found = self._poll(f"recv {name(peer)} {name(slot)}", r'done (\d+) (true|false|-?\d+|"[^"]*")', timeout)
+        again, with pauses that grow from 2 ms to 0.5 s; NothingQueued is raised when none has come in `timeout` seconds,
+        TakenBack as soon as steps of the role are gone, and Unreachable when the server didn't answer."""
+        found = self._told(f"recv {name(peer)} {name(slot)}", r'done (\d+) (true|false|-?\d+|"[^"]*")', timeout)
         return Received(int(found[1]), json.loads(found[2]))
 
     def pick(self, peer: str, timeout: float = 60) -> Picked:
         """Takes the oldest label that waits from the peer; where none waits, as with `receive`."""
-        found = self._poll(f"pick {name(peer)}", r"done (\d+) ([a-z]\w*)", timeout)
+        found = self._told(f"pick {name(peer)}", r"done (\d+) ([a-z]\w*)", timeout)
         return Picked(int(found[1]), found[2])
 
     def mark(self, mark: str) -> int:
         """Leaves a mark of that name, and gives the number of the step."""
-        return self._step(f"mark {name(mark)}")
+        return int(self._told(f"mark {name(mark)}", DONE)[1])
 
     def commit(self) -> int:
         """Makes final what the role did, with all on which that depends, and gives the number of the step."""
-        return self._step("commit")
+        return int(self._told_for_good("commit", DONE)[1])
 
     # --- Steps back, each of which gives the numbers of the steps that were taken back, the newest first ---
 
     def undo(self, step: int) -> list[int]:
         """Takes back the role's own step, where nothing depends on it."""
-        return self._taken_back(f"undo {count(step)}")
+        return steps(self._read(f"undo {count(step)}", UNDONE)[1])
 
     def rollback(self, step: int) -> list[int]:
         """Takes back the role's own step, and all that depends on it, of whatever role."""
-        return self._taken_back(f"rollback {count(step)}")
+        return steps(self._read(f"rollback {count(step)}", UNDONE)[1])
 
     def back(self, mark: str) -> list[int]:
-        """Takes back all that the role did since its last mark of that name, and all that depends on it."""
-        return self._taken_back(f"back {name(mark)}")
+        """Takes back all that the role did since its last mark of that name, and all that depends on it. TakenBack is raised
+        where steps of the role are gone, since that mark may be too, and an earlier one have the name."""
+        return steps(self._told_for_good(f"back {name(mark)}", UNDONE)[1])
 
     # --- Questions ---
+
+    @property
+    def heard(self) -> int:
+        """Of how many entries of the journal the role has heard: `news(role.heard)` tells what was taken back since."""
+        return self._heard
 
     def news(self, entries: int = 0) -> News:
         """Which of the role's steps others took back after the first so many entries of the journal. Ask the next time with
         the number of entries that this gives."""
-        found = self._read(f"news {count(entries)}", r"news (\d+)((?: \d+)*)")
-        return News(int(found[1]), [int(it) for it in found[2].split()])
+        question = f"news {count(entries)}"
+        found = self._news(question, self.ask(question))
+        if entries <= self._heard:
+            self._heard = found.entries
+        return found
 
     def show(self) -> dict[str, Any]:
         """The session: its `history`, `queues` and `roles`."""
@@ -508,7 +560,12 @@ class Role:
 
     def standing(self) -> Standing:
         """How the role stands in the session. A program that is started again, and goes on by this, calls `settle` first."""
-        return self._standing(self.show())
+        question = f"news {self._heard}"
+        told, shown = self._ask(question, math.inf, "show")
+        entries = self._news(question, told).entries  # what goes after this may be shown as gone, and is told once more
+        found = self._standing(self._shown(shown))
+        self._heard = entries
+        return found
 
     def _shown(self, answer: str) -> dict[str, Any]:
         """The session of an answer to `show`."""
@@ -544,36 +601,36 @@ class Role:
         if not self._is_settled:
             self._settle(math.inf)
         found = self.resumed
-        self._numbers.keep(self._newest)
+        self._numbers.keep(self._newest, self._heard)
         self.resumed = None
         return found
 
     def ask(self, command: str) -> str:
         """The answer to a command line, which is given without a number; refusals of it aren't raised."""
-        return self._ask(command, math.inf)
+        return self._ask(command, math.inf)[0]
 
-    def _ask(self, command: str, limit: float) -> str:
-        """The answer to a command line, for which nothing waits beyond the limit."""
+    def _ask(self, command: str, limit: float, *questions: str) -> list[str]:
+        """The answer to a command line, and those to questions in the same write, for which nothing waits beyond the limit."""
         if "\n" in command or not command.isascii():
             raise ValueError(f"no line: {command!r}")
         command = plain(command)
         if self._connection is not None and self._connection.is_over():
             self.close()
         if command.split(" ")[0] in QUESTIONS:
-            return self._exchange(command, limit)
+            return self._exchange([command, *questions], limit)
         if not self._is_settled:
             self._settle(limit)
         self._is_settled = False
         newest = self._newest
         if self.resumed is not None and self.resumed.command == command:
-            answer = self.resumed.answer
+            answers = self._exchange([f"{newest} {command}", *questions], limit)  # which is answered as before
         else:
-            self._numbers.keep(newest, command)
-            answer = self._exchange(f"{newest + 1} {command}", limit)
-            newest += 0 if answer.startswith("refused ") else 1
-        self._numbers.keep(newest)
+            self._numbers.keep(newest, self._heard, command)
+            answers = self._exchange([f"{newest + 1} {command}", *questions], limit)
+            newest += 0 if answers[0].startswith("refused ") else 1
+        self._numbers.keep(newest, self._heard)
         self._newest, self.resumed, self._is_settled = newest, None, True
-        return answer
+        return answers
 
     def _read(self, command: str, form: str) -> re.Match[str]:
         return self._understood(command, self.ask(command), form)
@@ -587,21 +644,64 @@ class Role:
             raise
 
     def _step(self, command: str) -> int:
-        return int(self._read(command, r"done (\d+)")[1])
+        return int(self._read(command, DONE)[1])
 
-    def _taken_back(self, command: str) -> list[int]:
-        return [int(it) for it in self._read(command, r"undone((?: \d+)*)")[1].split()]
+    def _news(self, question: str, answer: str) -> News:
+        found = self._understood(question, answer, r"news (\d+)((?: \d+)*)")
+        return News(int(found[1]), steps(found[2]))
 
-    def _poll(self, command: str, form: str, timeout: float) -> re.Match[str]:
-        """The answer to a command that is given again while it is refused because nothing waits."""
+    def _told(self, command: str, form: str, timeout: float = 0) -> re.Match[str]:
+        """The parts of the answer to a command, after which no step was gone of which the role hadn't heard."""
         until = time.monotonic() + timeout
+        answer, news = self._poll(command, until)
+        if news.gone:
+            self._put_back(command, answer, news, until)
+        self._heard = news.entries
+        return self._understood(command, answer, form)
+
+    def _told_for_good(self, command: str, form: str) -> re.Match[str]:
+        """The same for a command that no undo puts back: it isn't given where steps are gone, unless it was run already and waits
+        to be given again."""
+        if not self._is_settled:
+            self._settle(math.inf)
+        if self.resumed is None or self.resumed.command != command:
+            gone = self.news(self._heard).gone
+            if gone:
+                raise TakenBack(gone, command)
+        return self._told(command, form)
+
+    def _poll(self, command: str, until: float) -> tuple[str, News]:
+        """The answer to a command, and the news after it. While it is refused because nothing waits, and nothing is gone, it is
+        given again."""
+        question = f"news {self._heard}"
         for pause in pauses(0.002, 0.5):
-            answer = self._ask(command, until + self.timeout)
+            answer, told = self._ask(command, until + self.timeout, question)
+            news = self._news(question, told)
             rest = until - time.monotonic()
-            if answer != "refused nothingqueued" or rest <= 0:
+            if answer != "refused nothingqueued" or news.gone or rest <= 0:
                 break
             time.sleep(min(pause, rest))
-        return self._understood(command, answer, form)
+        return answer, news
+
+    def _put_back(self, command: str, answer: str, news: News, until: float) -> NoReturn:
+        """Raises TakenBack. What the command did may have been meant for another place: an undo puts it back, where one can."""
+        entries, gone = news
+        stands = answer if answer.startswith(("done", "undone")) else None
+        cause: Error | None = None
+        done = re.match(DONE, answer)
+        if done and command != "commit":
+            undo, question = f"undo {done[1]}", f"news {entries}"
+            try:
+                undone, told = self._ask(undo, until + self.timeout, question)
+                entries, more = self._news(question, told)
+                gone = gone + more
+                if undone != "refused nostep":  # which says that others took it back
+                    self._understood(undo, undone, f"undone {done[1]}")
+                stands = None
+            except Error as error:
+                cause = error
+        self._heard = entries
+        raise TakenBack(gone, command, stands) from cause
 
     # --- Numbers ---
 
@@ -609,10 +709,10 @@ class Role:
         """Finds out which number is the newest, and whether the command under way was accepted. Where none was under way, none may
         have been."""
         numbers = self._numbers
-        past = None if numbers.command is None else self._standing(self._shown(self._ask("show", limit))).past
+        past = None if numbers.command is None else self._standing(self._shown(self._ask("show", limit)[0])).past
         first = numbers.newest + 1
         for number in range(first, first + 1 if numbers.is_known else FULL + 2):
-            answer = self._exchange(f"{number} undo 0", limit)
+            answer = self._exchange([f"{number} undo 0"], limit)[0]
             if answer != "refused number":
                 break
         if answer == "refused nostep":
@@ -625,21 +725,21 @@ class Role:
             survives = None if past is None or step is None else int(step[1]) in past
             self._newest, self.resumed = number, Answered(numbers.command, answer, survives)
         if self.resumed is None or self.resumed.command is None:
-            numbers.keep(self._newest)
+            numbers.keep(self._newest, self._heard)
         self._is_settled = True
 
     # --- The connection ---
 
-    def _exchange(self, line: str, limit: float) -> str:
-        """The answer to a line, which is sent again where the connection breaks. Nothing waits beyond the limit."""
+    def _exchange(self, lines: Sequence[str], limit: float) -> list[str]:
+        """The answers to these lines, which are sent again where the connection breaks. Nothing waits beyond the limit."""
         try:
             if self._connection is None:
                 self._patiently(self._join, limit)
             try:
-                return self._talk(line, min(time.monotonic() + self.timeout, limit))
+                return self._talk(lines, min(time.monotonic() + self.timeout, limit))
             except OSError:
                 self.close()
-            return self._patiently(lambda until: self._talk(line, until), limit)
+            return self._patiently(lambda until: self._talk(lines, until), limit)
         except BaseException:  # also one of a signal's handler: the answer that may still come is no other line's
             self.close()
             raise
@@ -663,9 +763,13 @@ class Role:
         """A connection that acts for the role, from now on this Role's; whoever calls closes it where it can't join."""
         self._connection = Connection(self.address, until)
         line = f"join {self.session} {self.role}"
-        read(line, self._connection.talk(line, until), f"joined {self.session} {self.role}")
+        read(line, self._connection.talk([line], until)[0], f"joined {self.session} {self.role}")
         return self._connection
 
-    def _talk(self, line: str, until: float) -> str:
-        """The answer to a line on this Role's connection, or on a new one."""
-        return (self._connection or self._join(until)).talk(line, until)
+    def _talk(self, lines: Sequence[str], until: float) -> list[str]:
+        """The answers to these lines on this Role's connection, or on a new one. Where there is no memory for the news after a
+        command, which may have been run, that counts as a broken connection."""
+        answers = (self._connection or self._join(until)).talk(lines, until)
+        if lines[-1].startswith("news ") and answers[1:] == ["refused memory"]:
+            raise ConnectionError("the server ran out of memory")
+        return answers

@@ -22,25 +22,24 @@ def a(role):
     yield f"sent 5 in step {step}"
     while not any(row[1:3] == ["c", "recv"] for row in role.show()["history"]):
         time.sleep(PAUSE)
+    time.sleep(PAUSE)  # for c to hear that its receipt stood
     yield f"took back {role.rollback(step)}"
 
 
 def b(role):
-    entries = role.news().entries
     yield "received {1} in step {0}".format(*role.receive("a", "x"))
     yield f"sent 7 in step {role.send('c', 7)}"
-    yield f"lost {lost(role, entries)}"
+    yield f"lost {lost(role)}"
 
 
 def c(role):
-    entries = role.news().entries
     yield "received {1} in step {0}".format(*role.receive("b", "y"))
-    yield f"lost {lost(role, entries)}"
+    yield f"lost {lost(role)}"
 
 
-def lost(role, entries):
-    """The steps that others took back after so many entries of the journal, as soon as there are some."""
-    while not (news := role.news(entries)).gone:
+def lost(role):
+    """The steps that others took back, as soon as there are some."""
+    while not (news := role.news(role.heard)).gone:
         time.sleep(PAUSE)
     return news.gone
 

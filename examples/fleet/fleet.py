@@ -1,13 +1,14 @@
 #!/usr/bin/env python3
-"""fleet: more sessions than one process has, by many processes behind a balancer.
+"""fleet: sessions of several machines behind a balancer; here the machines are processes of one.
 
-usage: fleet.py N FILE [--port P] [--folder FOLDER] [options of serve]
+usage: fleet.py N FILE [--port P] [--folder FOLDER] [--sessions S] [options of host]
 
-Starts N shards, each of which is `./mps serve` of 16 sessions of the protocol in FILE: the first has the sessions 1 to 16, the
-second 17 to 32, and so on. Their ports of 127.0.0.1 are P+1, P+2 and so on, where P is 4750 by default, and shard K keeps its
-sessions in FOLDER/K, where FOLDER is fleet by default. In front of them haproxy listens on port P, and hands each connection
-to the shard whose session its first line names; its configuration is written to FOLDER/haproxy.cfg. A process that ends is
-started again, a shard on its folder. Further options, such as --sync and --idle 300, are those of each shard.
+Starts N shards, each of which is `./mps host` of the protocol in FILE: the first has the sessions 1 to S, the second S+1 to 2*S,
+and so on, where S is 1,000,000 by default. Their ports of 127.0.0.1 are P+1, P+2 and so on, where P is 4750 by default, and shard K
+keeps its sessions in FOLDER/K, where FOLDER is fleet by default. In front of them haproxy listens on port P, and hands each
+connection to the shard whose session its first line names; one for a session of no shard is closed. Its configuration is written to
+FOLDER/haproxy.cfg. A process that ends is started again, a shard on its folder. Further options, such as --sync and --idle 300, are
+those of each shard.
 
 `listening P` is printed once all are there, and `shard K is process ID` whenever one is started. Control-C ends all.
 Started again with a larger N, on the same FOLDER, the fleet has the sessions that it had, and those of more shards.
@@ -25,7 +26,7 @@ import sys
 import time
 
 MPS = str(pathlib.Path(__file__).resolve().parent.parent.parent / "mps")
-SESSIONS = 16  # of a shard
+SESSIONS = 1_000_000  # of a shard
 LOOK = 0.05  # seconds between two looks at the processes
 LEAST, MOST = 0.1, 10  # seconds until a process is started again
 PORTS = 65_535  # which there are
@@ -43,9 +44,13 @@ frontend sessions
     bind 127.0.0.1:{port}
     tcp-request inspect-delay 10s
     tcp-request content accept if {{ req.payload(0,0) -m sub "\\n" }}
+    # which answers a line that names no session
+    use_backend shard0 unless {{ req.payload(0,0) -m reg "^join [1-9][0-9]* " }}
     use_backend shard%[req.payload(0,0),word(2,' '),sub(1),div({sessions})]
-    # which answers a line that names no session of the fleet
-    default_backend shard0
+    default_backend none
+
+# A connection for a session of no shard is closed.
+backend none
 
 """
 
@@ -133,8 +138,7 @@ class Process:
 
 def shard(place, options, more):
     """A shard, which isn't started yet."""
-    words = [MPS, "serve", options.file, "--port", str(options.ports[place]), "--sessions", str(SESSIONS),
-             "--first", str(1 + SESSIONS * place), "--journal", str(options.folder / str(place)), *more]
+    words = [MPS, "host", options.file, "--port", str(options.ports[place]), "--journal", str(options.folder / str(place)), *more]
     return Process(f"shard {place}", words)
 
 
@@ -172,12 +176,23 @@ def need_ports(ports):
             sys.exit(f"port {port} can't be listened on: {os.strerror(error.errno)}")
 
 
+def keep_spread(options):
+    """Notes in the folder how many sessions a shard has. In a folder with other shards sessions would be looked for elsewhere."""
+    note = options.folder / "sessions"
+    if any(options.folder.glob("[0-9]*/*.journal")) or note.exists():
+        found = note.read_text(encoding="utf-8").strip() if note.exists() else "16"
+        if found != str(options.sessions):
+            sys.exit(f"{options.folder} has shards of {found} sessions each, and not {options.sessions}")
+    note.write_text(f"{options.sessions}\n", encoding="utf-8")
+
+
 def write_configuration(options):
     """Makes the folder and the balancer's configuration there, and gives the place of that."""
     file = options.folder / "haproxy.cfg"
     try:
         options.folder.mkdir(exist_ok=True)
-        file.write_text(configuration(options.port, options.ports), encoding="utf-8")
+        keep_spread(options)
+        file.write_text(configuration(options.port, options.ports, options.sessions), encoding="utf-8")
     except OSError as error:
         sys.exit(f"{error.filename or file} can't be written: {error.strerror}")
     return file
@@ -213,8 +228,11 @@ def main():
     reader.add_argument("file", metavar="FILE")
     reader.add_argument("--port", type=int, default=4750)
     reader.add_argument("--folder", type=pathlib.Path, default=pathlib.Path("fleet"))
+    reader.add_argument("--sessions", type=int, default=SESSIONS)
     options, more = reader.parse_known_args()
     options.count = count(options.count, options.port)
+    if options.sessions < 1:
+        sys.exit(f"a shard has one session or more, and not {options.sessions}")
     if shutil.which("haproxy") is None:
         sys.exit("fleet.py needs haproxy, which Debian has as a package")
     processes = []

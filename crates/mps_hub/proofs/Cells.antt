@@ -97,6 +97,16 @@ hub_of_new (Err e) names first sessions rooms new around = tt
 pub new_rooms_named : (names : List (List ℕ)) (sessions : List SessionState) (rooms : List RestoredRoom) → AreRoomsOf names sessions rooms → All (λ (r : RestoredRoom). r.room.names ≡ names) rooms
 new_rooms_named names sessions rooms new = all_at (λ (r : RestoredRoom). r.room.names ≡ names) rooms (λ i r e. ap (λ (m : RoomState). m.names) (new.each i r e).2)
 
+-- a room that is the only one has the names of all
+pub one_named : (names : List (List ℕ)) (rooms : List RestoredRoom) (r : RestoredRoom) → length rooms ≡ 1 → slice_get rooms 0 ≡ Some r → r.room.names ≡ names → All (λ (r : RestoredRoom). r.room.names ≡ names) rooms
+one_named names rooms r one at is = all_at (λ (r : RestoredRoom). r.room.names ≡ names) rooms (at_first rooms one at)
+  where
+    at_first : (rooms : List RestoredRoom) → length rooms ≡ 1 → slice_get rooms 0 ≡ Some r → (i : ℕ) (x : RestoredRoom) → slice_get rooms i ≡ Some x → x.room.names ≡ names
+    at_first (x ∷ []) one at zero y there = let same : r ≡ y = cc in subst (λ (m : RestoredRoom). m.room.names ≡ names) same is
+    at_first (x ∷ []) one at (suc i) y there = absurd cc
+    at_first [] one at i y there = absurd cc
+    at_first (x ∷ y ∷ rest) one at i z there = absurd (omega (arith, one))
+
 pub numbered : (names : List (List ℕ)) (first : ℕ) (rooms : List RestoredRoom) (cells : List Opened) → All (λ (r : RestoredRoom). r.room.names ≡ names) rooms → AreCellsAround first rooms cells → AreNumbered names first cells
 numbered names first rooms cells named h i o e =
     let cell = h.each i o e in (ap (λ (x : Opening). x.names) cell.2 ∙ at_all (λ (r : RestoredRoom). r.room.names ≡ names) rooms i cell.0 named cell.1, ap (λ (x : Opening). x.session) cell.2)

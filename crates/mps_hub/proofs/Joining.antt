@@ -13,6 +13,7 @@ use Rattle.mps_hub.specs.Connections.{HasAttended, RepliesToFirst}
 use Rattle.mps_hub.specs.Private.Connections.{CameOfJoining, IsAnsweredFirst}
 use Rattle.mps_hub.specs.First.{IsFirstLine, IsJoin}
 use Rattle.mps_hub.specs.Places.{HasSuchRole, IsKeptBy, IsPassOf, Offer}
+use Rattle.mps_hub.specs.Shares.{IsLeftOf}
 use Rattle.mps_hub.specs.declared.attending.Attended.{Attended}
 use Rattle.mps_hub.specs.declared.attending.Attended.TheVariants.{NoLine, TurnedAway, Conversed, Memory, Unrecorded}
 use Rattle.mps_hub.proofs.Bytewise.{joins_whole, joins_front}
@@ -36,9 +37,9 @@ replies_whole offer keepers line kept (Answered answer) is h = absurd h
 offered : (offer : Offer) (session : ℕ) (name : List ℕ) (pass : Known) → IsPassOf offer session name pass → HasSuchRole offer session name
 offered offer session name pass h = record { is_session = h.is_session; role = pass.role; named = h.of_role }
 
-module _ {C K R W : Type 0} (caller : Ghosts C) (pass : C → Known) (keeper : C → Option K) (source : SourceGhosts R) (sink : SinkGhosts W) (offer : Offer) (keepers : List (Option K)) (reader mid : R) (writer : W) (kept : List ℕ) (first : IsFirstLine source reader mid kept) where
+module _ {C K R W : Type 0} (caller : Ghosts C) (pass : C → Known) (keeper : C → Option K) (left : C → Option ℕ) (source : SourceGhosts R) (sink : SinkGhosts W) (offer : Offer) (keepers : List (Option K)) (reader mid : R) (writer : W) (kept : List ℕ) (first : IsFirstLine source reader mid kept) where
   -- a first line that got no pass, and its answer
-  pub refused : (writer' : W) (reply : Reply) (ended : Attended) → RepliesToFirst offer keepers kept reply → IsAnsweredFirst sink writer writer' reply ended → HasAttended caller pass keeper source sink offer keepers reader writer mid writer' ended
+  pub refused : (writer' : W) (reply : Reply) (ended : Attended) → RepliesToFirst offer keepers kept reply → IsAnsweredFirst sink writer writer' reply ended → HasAttended caller pass keeper left source sink offer keepers reader writer mid writer' ended
   refused writer' reply NoLine replies h = absurd h
   refused writer' reply TurnedAway replies h = record {
     kept = kept;
@@ -52,17 +53,17 @@ module _ {C K R W : Type 0} (caller : Ghosts C) (pass : C → Known) (keeper : C
   refused writer' reply Unrecorded replies h = absurd h
 
   -- a first line that got its pass, and what followed
-  pub joined : (session : ℕ) (name : List ℕ) (before after : C) (reader' : R) (writer' : W) (ended : Attended) → CameOfJoining caller source sink (Joined session name) before mid writer after reader' writer' ended → IsJoin kept session name → IsPassOf offer session name (pass before) → IsKeptBy keepers (session - offer.first) (keeper before)
-      → HasAttended caller pass keeper source sink offer keepers reader writer reader' writer' ended
-  joined session name before after reader' writer' NoLine h joins taken by = absurd h
-  joined session name before after reader' writer' TurnedAway h joins taken by = let moved = subst (λ (r : R). IsFirstLine source reader r kept) (sym h.1) first in record {
+  pub joined : (session : ℕ) (name : List ℕ) (before after : C) (reader' : R) (writer' : W) (ended : Attended) → CameOfJoining caller source sink (Joined session name) before mid writer after reader' writer' ended → IsJoin kept session name → IsPassOf offer session name (pass before) → IsKeptBy keepers (session - offer.first) (keeper before) → IsLeftOf offer.share (left before)
+      → HasAttended caller pass keeper left source sink offer keepers reader writer reader' writer' ended
+  joined session name before after reader' writer' NoLine h joins taken by share = absurd h
+  joined session name before after reader' writer' TurnedAway h joins taken by share = let moved = subst (λ (r : R). IsFirstLine source reader r kept) (sym h.1) first in record {
     kept = kept;
     first = moved;
     reply = Joined session name;
     replies = (joins_whole moved.line kept session name moved.front_kept joins, (taken.is_session, (keeper before, by)), offered offer session name (pass before) taken);
     written = inr h.0;
   }
-  joined session name before after reader' writer' (Conversed ending) h joins taken by = record {
+  joined session name before after reader' writer' (Conversed ending) h joins taken by share = record {
     kept = kept;
     session = session;
     name = name;
@@ -73,7 +74,8 @@ module _ {C K R W : Type 0} (caller : Ghosts C) (pass : C → Known) (keeper : C
     after = after;
     taken = taken;
     kept_by = by;
+    shared = share;
     conversed = h;
   }
-  joined session name before after reader' writer' Memory h joins taken by = h.0
-  joined session name before after reader' writer' Unrecorded h joins taken by = h.0
+  joined session name before after reader' writer' Memory h joins taken by share = h.0
+  joined session name before after reader' writer' Unrecorded h joins taken by share = h.0

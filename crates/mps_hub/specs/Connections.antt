@@ -19,6 +19,7 @@ use Rattle.mps_wire.specs.declared.conversation.Ending.{Ending}
 use Rattle.mps_wire.specs.declared.conversation.Ending.TheVariants.{Untold}
 use Rattle.mps_hub.specs.First.{HasNoFirstLine, IsFirstLine, IsJoin}
 use Rattle.mps_hub.specs.Places.{HasSuchRole, IsKeptBy, IsOpen, IsPassOf, Offer}
+use Rattle.mps_hub.specs.Shares.{IsLeftOf}
 use Rattle.mps_hub.specs.declared.attending.Attended.{Attended}
 use Rattle.mps_hub.specs.declared.attending.Attended.TheVariants.{NoLine, TurnedAway, Conversed, Memory, Unrecorded}
 
@@ -64,8 +65,8 @@ module _ {C R W : Type 0} (caller : Ghosts C) (source : SourceGhosts R) (sink : 
         (streams source sink reader told) (streams source sink reader' writer') after ending
 
 -- What one connection comes to: a reader and a writer, as they were before it and as they are after it.
-module _ {C K R W : Type 0} (caller : Ghosts C) (pass : C → Known) (keeper : C → Option K) (source : SourceGhosts R)
-    (sink : SinkGhosts W) (offer : Offer) (keepers : List (Option K)) (reader : R) (writer : W) (reader' : R) (writer' : W)
+module _ {C K R W : Type 0} (caller : Ghosts C) (pass : C → Known) (keeper : C → Option K) (left : C → Option ℕ)
+    (source : SourceGhosts R) (sink : SinkGhosts W) (offer : Offer) (keepers : List (Option K)) (reader : R) (writer : W) (reader' : R) (writer' : W)
   where
     -- its first line was refused, or the first answer broke off
     pub record WasTurnedAway : Type 0 where
@@ -75,8 +76,8 @@ module _ {C K R W : Type 0} (caller : Ghosts C) (pass : C → Known) (keeper : C
       pub replies : RepliesToFirst offer keepers first.line reply
       pub written : (WasSent sink writer writer' reply × (code_of reply ≢ 0)) ⊎ SendingBrokeOff sink writer writer' reply
 
-    -- it joined, and was answered so; and from there on its lines were a conversation of the pass that it asked for, which
-    -- the session's own keeper recorded, if there are keepers
+    -- it joined, and was answered so; and from there on its lines were a conversation of the pass that it asked for, within
+    -- what was left of its role's share, which the session's own keeper recorded, if there are keepers
     pub record HasConversed (ending : Ending) : Type 0 where
       pub kept : List ℕ
       pub session : ℕ
@@ -88,6 +89,7 @@ module _ {C K R W : Type 0} (caller : Ghosts C) (pass : C → Known) (keeper : C
       pub after : C
       pub taken : IsPassOf offer session name (pass before)
       pub kept_by : IsKeptBy keepers (session - offer.first) (keeper before)
+      pub shared : IsLeftOf offer.share (left before)
       pub conversed : WasConversation caller source sink
           (Joined session name) before joined writer after reader' writer' ending
 

@@ -4,3 +4,5 @@ pub mod Halls
 pub mod Connections
 pub mod Private
 pub mod Serving
+pub mod Shares
+pub mod SharedCalls

@@ -3,11 +3,13 @@ use Rattle.std.specs.Prelude.{◌≡◌, ℕ, ◌+◌, ◌-◌, ◌<◌, ◌≤�
 use Rattle.mps_cell.specs.Calls.{Known}
 use Rattle.mps_cell.specs.Cells.{Opened}
 
--- what a desk offers: the names of the roles, the number of the first session, and a cell for each session
+-- what a desk offers: the names of the roles, the number of the first session, a cell for each session, and how many
+-- entries of its session each role may make, if that is limited
 pub record Offer : Type 0 where
   pub names : List (List ℕ)
   pub first : ℕ
   pub cells : List Opened
+  pub share : Option ℕ
 
 -- so many sessions are numbered from the first on
 abbrev pub IsSession : (first sessions session : ℕ) → Type 0

@@ -9,10 +9,12 @@ ghost use Rattle.mps_keeper.specs.Holds.{keeper_of, records_of, whole_of};
 ghost use Rattle.mps_hub.specs.Private.Connections.{CameOfJoining, IsAnsweredFirst};
 ghost use Rattle.mps_hub.specs.First.{IsJoin};
 ghost use Rattle.mps_hub.specs.Places.{IsKeptBy, IsPassOf, keeper_at};
+ghost use Rattle.mps_hub.specs.Shares.{IsLeftOf};
 
 use crate::desk::{Desk, JoinFault};
 use crate::first::{asked_for, first_line};
-use mps_base::Name;
+use crate::sharing::Sharing;
+use mps_base::{Name, Role};
 use mps_cell::{Held, Pass};
 use mps_dev::{Discard, Failed, Sink, Source};
 use mps_keeper::{Disk, Gate, Guest, Hold, Keeper, LONGEST_LINE};
@@ -23,6 +25,7 @@ use mps_wire::{Ending, converse};
 use std::alloc::{AllocError, Global};
 use std::fs::File;
 use std::sync::Wait;
+use std::time::Clock;
 
 /// How a connection ended.
 #[derive(Clone, Copy, Debug, PartialEq, Eq)]
@@ -89,6 +92,8 @@ pub(crate) fn refuse<W: Sink>(alloc: Global, writer: &mut W, reply: &Reply) -> A
 #[derive(Drop)]
 struct Admitted<'s, 'd, S: Sink, D> {
     session: u64,
+    // of the session
+    place: usize,
     name: Name,
     pass: Pass<'d>,
     keeper: Option<&'s Keeper<S, D>>,
@@ -108,7 +113,12 @@ impl Usher for NoUsher {
 }
 
 /// A role's pass in a connection.
-pub type PassGuest<'g, 'k, 'r, 'a, G, H, S, D> = Guest<'g, G, Hold<'k, H, S, D>, Held<'r, 'a, H>>;
+pub type PassGuest<'g, 'k, 'r, 'a, G, H, S, D> = Guest<
+    'g,
+    G,
+    Hold<'k, H, S, D>,
+    Sharing<'r, H, Held<'r, 'a, H>>,
+>;
 
 // Says that it joined, and converses. The pass stays one of its cell.
 fn converse_joined<
@@ -117,7 +127,7 @@ fn converse_joined<
     'r,
     'a,
     G: Gate + 'static,
-    H: Wait + Eprint + 'static,
+    H: Wait + Clock + Eprint + 'static,
     S: Sink + 'static,
     D: Disk + 'static,
     R: Source,
@@ -131,8 +141,8 @@ fn converse_joined<
 ) -> Attended
     requires reads { R.calls reader.old < 2 ^ 62 }
     requires writes { W.failed_calls writer.old < 2 ^ 61 }
-    ensures cell { caller.new.inner.pass.cell ≡ caller.old.inner.pass.cell }
-    ensures opening { caller.new.inner.pass.opening ≡ caller.old.inner.pass.opening }
+    ensures cell { caller.new.inner.inner.pass.cell ≡ caller.old.inner.inner.pass.cell }
+    ensures opening { caller.new.inner.inner.pass.opening ≡ caller.old.inner.inner.pass.opening }
     ensures conversed { CameOfJoining ⟦<PassGuest<'static, 'static, 'static, 'static, G, H, S, D> as Caller>⟧
         R.Source W.Sink joined.now caller.old reader.old writer.old caller.new reader.new writer.new result }
     ensures told { records_of caller.old.recorder ≡ false → whole_of caller.old.recorder ≡ true → EndsForNoLoss result }
@@ -192,7 +202,7 @@ impl<'s, 'd, H, G> Serving<'s, 'd, H, G, Discard, File> {
 impl<
     's,
     'd,
-    H: Wait + Eprint + 'static,
+    H: Wait + Clock + Eprint + 'static,
     G: Gate + 'static,
     S: Sink + 'static,
     D: Disk + 'static,
@@ -229,6 +239,7 @@ impl<
         match self.desk.take(self.rt, session, &name) {
             Ok(pass) => Ok(Admitted {
                 session,
+                place,
                 name,
                 pass,
                 keeper,
@@ -236,6 +247,23 @@ impl<
             Err(JoinFault::NoSession) => Err(Reply::NoSession),
             Err(JoinFault::NoRole) => Err(Reply::NoRole),
             Err(JoinFault::Taken) => Err(Reply::Taken),
+        }
+    }
+
+    // How many entries the role of the session at that place may still make, if that is limited.
+    fn left(&self, place: usize, role: Role) -> Option<u64>
+        ensures { IsLeftOf self.now.desk.now.share result }
+    {
+        match self.desk.shares() {
+            Some(shares) => Some(shares.left(place, role)),
+            None => None,
+        }
+    }
+
+    // Stores how many are left to it.
+    fn keep_left(&self, place: usize, role: Role, left: Option<u64>) {
+        if let (Some(shares), Some(left)) = (self.desk.shares(), left) {
+            shares.keep(place, role, left);
         }
     }
 
@@ -265,7 +293,7 @@ impl<
         requires reads { R.calls reader.old < 2 ^ 61 }
         requires writes { W.failed_calls writer.old < 2 ^ 61 }
         ensures attended { HasAttended ⟦<PassGuest<'static, 'static, 'static, 'static, G, H, S, D> as Caller>⟧
-            (λ c. c.inner.pass) (λ c. keeper_of c.recorder) R.Source W.Sink
+            (λ c. c.inner.inner.pass) (λ c. keeper_of c.recorder) (λ c. c.inner.left) R.Source W.Sink
             self.now.desk.now self.now.keepers.now reader.old writer.old reader.new writer.new result }
         ensures told { length self.now.keepers.now ≡ 0 → EndsForNoLoss result }
     {
@@ -283,7 +311,7 @@ impl<
         requires reads { R.calls reader.old < 2 ^ 61 }
         requires writes { W.failed_calls writer.old < 2 ^ 61 }
         ensures attended { HasAttended ⟦<PassGuest<'static, 'static, 'static, 'static, G, H, S, D> as Caller>⟧
-            (λ c. c.inner.pass) (λ c. keeper_of c.recorder) R.Source W.Sink
+            (λ c. c.inner.inner.pass) (λ c. keeper_of c.recorder) (λ c. c.inner.left) R.Source W.Sink
             self.now.desk.now self.now.keepers.now reader.old writer.old reader.new writer.new result }
         ensures told { length self.now.keepers.now ≡ 0 → EndsForNoLoss result }
     {
@@ -299,17 +327,27 @@ impl<
             Ok(admitted) => {
                 let Admitted {
                     session,
+                    place,
                     name,
                     pass,
                     keeper,
                 } = admitted;
                 usher.joined(session);
                 let rt = self.rt;
+                let role = pass.role();
+                let sharing = Sharing {
+                    rt,
+                    turn: self.desk.turn_at(place),
+                    left: self.left(place, role),
+                    inner: Held { rt, pass },
+                };
                 let hold = Hold::new(rt, keeper);
-                let mut guest = Guest::new(self.gate, connection, hold, Held { rt, pass }, line);
+                let mut guest = Guest::new(self.gate, connection, hold, sharing, line);
                 let joined = Reply::Joined { session, name };
                 let ended = converse_joined(self.alloc, &mut guest, &joined, reader, writer);
-                self.desk.give(rt, session, guest.inner.pass);
+                // before the pass is there for the next connection
+                self.keep_left(place, role, guest.inner.left);
+                self.desk.give(rt, session, guest.inner.inner.pass);
                 ended
             }
             Err(reply) => refuse(self.alloc, writer, &reply),

@@ -1,17 +1,19 @@
 //! The passes that are not in use, which one thread at a time has.
 ghost use Rattle.std.specs.Prelude.{◌≡◌, ◌≢◌, ◌+◌, ◌<◌, ◌≤◌, ◌^◌, ◌↔◌, Some, None, IfOk, IfSome, IsNone, IsErrOf, All, length};
 ghost use Rattle.std.specs.Prelude.{slice_set};
+ghost use Rattle.std.specs.Option.{option_map};
 ghost use Rattle.mps_hub.specs.Places.{IsAtPlace, IsOfCell, IsOfSession, HasSuchRole, IsPassOf, IsSession, Offer};
 ghost use Rattle.mps_hub.specs.Private.Places.{AreNumbered, AtHome};
 
 use crate::lock::{Steady, put_back, take_out};
+use crate::shares::Shares;
 use atomic_table::{Refused as NotMade, Table};
 use mps_base::{Name, Roles};
 use mps_cell::{Cell, Pass};
 use std::alloc::{AllocError, Global};
 use std::marker::Model;
 use std::snapshot::Snapshot;
-use std::sync::Wait;
+use std::sync::{Mutex, Wait};
 use thiserror::Error;
 
 /// Why no pass is given. The first that applies is told.
@@ -133,6 +135,17 @@ impl<'a> Places<'a> {
     }
 }
 
+// A turn for each of so many sessions.
+fn turns_of(alloc: Global, sessions: usize) -> Result<Vec<Mutex<()>>, AllocError>
+    ensures { IfOk result (λ turns. length turns.items ≡ sessions) }
+{
+    let mut turns = Vec::with_capacity(alloc, sessions)?;
+    for _ in 0..sessions {
+        turns.push_reserved(Mutex::new(()));
+    }
+    Ok(turns)
+}
+
 /// The passes of a hub that are not in use. Each connection takes one and gives it back.
 #[derive(Drop)]
 pub struct Desk<'a> {
@@ -140,10 +153,15 @@ pub struct Desk<'a> {
     first: u64,
     sessions: u64,
     table: Table<Places<'a>, Places<'a>, Snapshot<Places<'a>>, Steady, Global>,
+    // who may show the state, of each session
+    turns: Vec<Mutex<()>>,
+    // what each role may make, if that is limited
+    shares: Option<&'a Shares>,
 }
 
 impl<'a> Model for Desk<'a> {
     ghost use Rattle.std.specs.Coded.{codes};
+    ghost use Rattle.std.specs.Option.{option_map};
     ghost use Rattle.mps_local.specs.Private.Codes.{coded_local};
     ghost use Rattle.mps_hub.specs.Places.{Offer};
     ghost use Rattle.mps_hub.specs.Private.Places.{IsDesk};
@@ -152,7 +170,12 @@ impl<'a> Model for Desk<'a> {
 
     ghost coded = { Prim.hlevel (codes, coded_local) };
 
-    ghost view = { λ d. record { names = d.names.now; first = d.first; cells = d.table.shared.key.value } };
+    ghost view = { λ d. record {
+      names = d.names.now;
+      first = d.first;
+      cells = d.table.shared.key.value;
+      share = option_map (λ s. s.now.most) d.shares;
+    } };
 
     ghost invariant = { λ d. IsDesk d.table.shared.table_id d.names.now d.first d.sessions d.table.shared.key.value };
 }
@@ -164,12 +187,19 @@ impl<'a> Desk<'a> {
         names: &'a Roles,
         first: u64,
         rows: Vec<Row<'a>>,
+        shares: Option<&'a Shares>,
     ) -> Result<Desk<'a>, AllocError>
         requires numbered { AreNumbered names.now first rows.items }
         requires fits { first + length rows.items < 2 ^ 64 }
-        ensures { IfOk result (λ d. d ≡ record { names = names.now; first = first; cells = rows.entry.items }) }
+        ensures { IfOk result (λ d. d ≡ record {
+          names = names.now;
+          first = first;
+          cells = rows.entry.items;
+          share = option_map (λ s. s.now.most) shares.entry;
+        }) }
     {
         let sessions = rows.len() as u64;
+        let turns = turns_of(alloc, rows.len())?;
         let places = Places { rows };
         let about = Snapshot::of(&places);
         let mut slots = Vec::with_capacity(alloc, 1)?;
@@ -180,9 +210,23 @@ impl<'a> Desk<'a> {
                 first,
                 sessions,
                 table,
+                turns,
+                shares,
             }),
             Err(NotMade { slots: _ }) => Err(AllocError),
         }
+    }
+
+    // Whose turn it is to show the state of the session at that place.
+    pub(crate) fn turn_at(&self, place: usize) -> Option<&Mutex<()>> {
+        self.turns.get(place)
+    }
+
+    // What each role may make, if that is limited.
+    pub(crate) fn shares(&self) -> Option<&'a Shares>
+        ensures { option_map (λ s. s.now.most) result ≡ self.now.share }
+    {
+        self.shares
     }
 
     // The names of the roles.

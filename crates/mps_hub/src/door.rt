@@ -21,7 +21,7 @@ const PASSED_OVER: u64 = 1_000;
 #[derive(Drop)]
 pub struct Arrival {
     pub stream: TcpStream,
-    /// Its first line, with the LF, where that was read.
+    /// Its first bytes, up to its first LF or further, where they were read.
     pub ahead: Vec<u8>,
 }
 

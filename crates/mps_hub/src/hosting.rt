@@ -5,15 +5,18 @@ ghost use Rattle.mps_line.specs.Codes.{code_of};
 
 use crate::attending::{Serving, refuse};
 use crate::door::{Arrival, accept_next};
-use crate::first::{asked_for, first_line};
+use crate::first::asked_for;
 use crate::limits::Limits;
-use crate::patience::{RetryingWriter, TimedReader, linger};
-use crate::register::{Entered, Queue, Register};
+use crate::patience::{
+    RetryingWriter, TimedReader, bytes_there, first_bytes, linger, linger_until, moment_after,
+};
+use crate::register::{Entered, Left, Queue, Register};
 use crate::server::{ServeFault, serve_door};
 use crate::sessions::Hub;
+use crate::shares::Shares;
 use mps_base::Roles;
 use mps_command::{Answer, Refusal};
-use mps_dev::{OverRead, OverWrite, Sink};
+use mps_dev::{OverWrite, Sink};
 use mps_keeper::{Disk, Keeper, RestoredRoom, Unguarded};
 use mps_line::Reply;
 use std::alloc::{AllocError, Global};
@@ -40,8 +43,8 @@ pub const GREATEST: u64 = 1 << 63;
 /// A session that was opened.
 #[derive(Drop)]
 pub struct OpenSession<S: Sink, D> {
-    /// What its file led to.
-    pub room: RestoredRoom,
+    /// What its file led to: one room, which lies in a list since a thread's stack would keep the space of each move of it.
+    pub rooms: Vec<RestoredRoom>,
     /// What records it: one keeper, or none where nothing is recorded.
     pub keepers: Vec<Option<Keeper<S, D>>>,
     /// Whether it may not be opened again as long as the server runs, once lines of it were lost.
@@ -65,6 +68,7 @@ pub trait Host<S: Sink, D> {
     /// Opens the session of that number; or says why not.
     fn open(&self, session: u64) -> Result<OpenSession<S, D>, NotOpened>
         requires number { session ≤ 2 ^ 63 }
+        ensures one { IfOk result (λ opened. length opened.rooms.items ≡ 1) }
         ensures few { IfOk result (λ opened. length opened.keepers.items ≤ 1) }
         ensures refusal { IfErr result (λ why. code_of why.reply ≢ 0) };
 
@@ -105,12 +109,15 @@ impl<
     D: Disk + Sync + Drop + 'static,
     H: Host<S, D> + Sync,
 > Hosting<'f, R, S, D, H> {
-    // The first line of the connection with its LF; `None` where none came.
+    // The first line of the connection, and what came with it; `None` where none came. One that is too long needs no LF.
     fn line_of(&self, stream: &TcpStream) -> Option<Vec<u8>> {
-        let timed = TimedReader::new(self.rt, stream, self.limits.first_line(), self.limits.idle)?;
-        let mut line = first_line(self.alloc, &mut OverRead::new(timed)).ok()??;
-        line.push(b'\n').ok()?;
-        Some(line)
+        let mut timed = TimedReader::new(
+            self.rt,
+            stream,
+            self.limits.first_line(),
+            self.limits.idle,
+        )?;
+        first_bytes(self.alloc, &mut timed)
     }
 
     // The same, while the connection is among those that owe it.
@@ -123,15 +130,15 @@ impl<
         line
     }
 
-    // The session that the line asks for, if there may be one, with a role of that name; or why not.
-    fn session_of(&self, line: &[u8]) -> Result<u64, Reply>
+    // The session that the first line of these bytes asks for, if there may be one, with a role of that name; or why not.
+    fn session_of(&self, bytes: &[u8]) -> Result<u64, Reply>
         ensures number { IfOk result (λ session. session ≤ 2 ^ 63) }
         ensures refusal { IfErr result (λ reply. code_of reply ≢ 0) }
     {
-        let Some((_, kept)) = line.split_last() else {
+        let Some(end) = bytes.iter().position(|byte| *byte == b'\n') else {
             return Err(Reply::BadLine);
         };
-        let Some((session, name)) = asked_for(kept) else {
+        let Some((session, name)) = asked_for(&bytes[..end]) else {
             return Err(Reply::BadLine);
         };
         if session == 0 || session > GREATEST {
@@ -143,19 +150,41 @@ impl<
         }
     }
 
-    // Tells the client why it isn't let in, reads for so long what it still sends, and closes the connection.
-    fn refuse(&self, stream: TcpStream, reply: &Reply, time: Duration)
+    // Tells the client why it isn't let in.
+    fn refuse(&self, stream: &TcpStream, reply: &Reply)
         requires { code_of reply.now ≢ 0 }
     {
         let _told = stream.set_nodelay(true);
-        let mut writer = OverWrite::new(RetryingWriter { stream: &stream });
+        let mut writer = OverWrite::new(RetryingWriter { stream });
         let _refused = refuse(self.alloc, &mut writer, reply);
-        linger(self.rt, &stream, time);
+    }
+
+    // A connection that came, with its first line, if that is there already.
+    fn arrival(&self, stream: TcpStream) -> Arrival {
+        let ahead = match bytes_there(self.alloc, &stream) {
+            Some(bytes) => bytes,
+            None => Vec::new(self.alloc),
+        };
+        Arrival { stream, ahead }
+    }
+
+    // Has a connection let in whose first line is there already, and asks for an open session. Else gives it back.
+    fn let_in_at_once(&self, arrival: Arrival) -> Option<Arrival> {
+        match self.session_of(arrival.ahead.as_slice()) {
+            Ok(session) => self.register.enter_open(self.rt, session, arrival),
+            Err(_) => Some(arrival),
+        }
     }
 
     // Attends to a connection that came, up to where it is let in to its session.
-    fn receive(&self, stream: TcpStream) {
-        match self.owed_line(&stream) {
+    fn receive(&self, arrival: Arrival) {
+        let Arrival { stream, ahead } = arrival;
+        let line = if ahead.is_empty() {
+            self.owed_line(&stream)
+        } else {
+            Some(ahead)
+        };
+        match line {
             Some(ahead) => match self.session_of(ahead.as_slice()) {
                 Ok(session) => self.enter(session, Arrival { stream, ahead }),
                 Err(reply) => self.turn_back(stream, &reply),
@@ -171,7 +200,9 @@ impl<
     fn turn_back(&self, stream: TcpStream, reply: &Reply)
         requires { code_of reply.now ≢ 0 }
     {
-        self.refuse(stream, reply, Duration::from_secs(1));
+        self.refuse(&stream, reply);
+        linger(self.rt, &stream, Duration::from_secs(1));
+        drop(stream);
         self.register.ended(self.rt);
     }
 
@@ -230,23 +261,27 @@ impl<
     }
 
     // Serves the session that was opened until the queue is over. When this returns nothing of it is held any more.
+    #[tactic(auto, using(crate::proofs::Cells::one_named))]
     fn serve_opened(
         &self,
         queue: &Queue<'_>,
         opened: OpenSession<S, D>,
     ) -> Result<Hosted, AllocError>
+        requires one { length opened.rooms.items ≡ 1 }
         requires few { length opened.keepers.items ≤ 1 }
         ensures hosted { IfOk result IsHosted }
     {
         let OpenSession {
-            room,
+            rooms,
             keepers,
             barred,
         } = opened;
-        let names = room.room.names().copy(self.alloc)?;
-        let mut rooms = Vec::with_capacity(self.alloc, 1)?;
-        rooms.push_reserved(room);
-        let mut hub = Hub::of_restored(self.alloc, &names, queue.number(), rooms)?;
+        let names = match rooms.first() {
+            Some(room) => room.room.names().copy(self.alloc)?,
+            None => unreachable!(),
+        };
+        let shares = Shares::of(self.alloc, self.limits.share, rooms.as_slice())?;
+        let mut hub = Hub::of_restored(self.alloc, &names, queue.number(), rooms)?.sharing(shares);
         match self.serve(queue, &mut hub, keepers.as_slice()) {
             Ok(lost) => {
                 self.leave(queue.number(), hub, lost)?;
@@ -296,18 +331,39 @@ impl<
                     return self.turn_away(queue.number(), &Reply::Unkept);
                 }
             }
-            if self.register.leave(self.rt, queue.number()) {
+            if !self.is_wanted(queue.number()) {
                 return;
             }
         }
     }
 
-    // Refuses those who wait for the session by now.
+    // Whether the session, which was let go of, is to be opened again. Those who wait for it while as many are open as may be
+    // are refused.
+    fn is_wanted(&self, session: u64) -> bool {
+        for _ in self.rt.forever() {
+            match self.register.leave(self.rt, session) {
+                Left::Gone => return false,
+                Left::Wanted => return true,
+                Left::Full => self.turn_away(session, &Reply::Busy),
+            }
+        }
+        unreachable!()
+    }
+
+    // Refuses those who wait for the session by now: each is told, and then what all of them still send is read for a while.
     fn turn_away(&self, session: u64, reply: &Reply)
         requires { code_of reply.now ≢ 0 }
     {
-        for arrival in self.register.turn_away(self.rt, self.alloc, session) {
-            self.refuse(arrival.stream, reply, Duration::from_millis(BRIEF));
+        let arrivals = self.register.turn_away(self.rt, self.alloc, session);
+        for arrival in &arrivals {
+            self.refuse(&arrival.stream, reply);
+        }
+        let until = moment_after(self.rt, Duration::from_millis(BRIEF));
+        for arrival in arrivals {
+            if let Some(until) = until {
+                linger_until(self.rt, &arrival.stream, until);
+            }
+            drop(arrival);
             self.register.parted(self.rt);
         }
     }
@@ -328,7 +384,10 @@ fn accept_all<
         register.lets_in(rt);
         match accept_next(listener) {
             Ok(stream) => {
-                if scope.spawn(move || hosting.receive(stream)).is_err() {
+                let Some(arrival) = hosting.let_in_at_once(hosting.arrival(stream)) else {
+                    continue;
+                };
+                if scope.spawn(move || hosting.receive(arrival)).is_err() {
                     register.ended(rt);
                     register.make_way(rt);
                 }
@@ -344,7 +403,7 @@ fn accept_all<
 }
 
 /// Accepts connections, and has the host open the session of each, unless it is open. It returns when as many have ended as
-/// are accepted, and all sessions are let go of.
+/// are accepted, and all sessions are let go of; not where one may not be opened again since lines of it were lost.
 pub fn host_all<
     R: Threads + Wait + Clock + Eprint + Sync + 'static,
     S: Sink + Send + Drop + 'static,

@@ -23,6 +23,8 @@ mod patience;
 pub mod register;
 pub mod server;
 pub mod sessions;
+pub mod shares;
+pub mod sharing;
 
 pub use attending::{Attended, NoUsher, PassGuest, Serving, Usher};
 pub use desk::{Desk, JoinFault};
@@ -34,3 +36,5 @@ pub use patience::FIRST_LINE;
 pub use register::{Queue, Register};
 pub use server::{ServeFault, Served, first_lost, serve, serve_door, serve_recorded, serve_with};
 pub use sessions::{Hub, HubDeal};
+pub use shares::Shares;
+pub use sharing::Sharing;

@@ -13,6 +13,9 @@ pub struct Limits {
     pub idle: Option<Duration>,
     /// Whether a session of which lines are lost ends the server. Else it ends that session's connections alone.
     pub strict: bool,
+    /// How many entries of its session each role may make, which is for whoever makes the hub (`Hub::sharing`). `None` is as
+    /// many as the journal takes.
+    pub share: Option<u64>,
 }
 
 impl Limits {

@@ -2,6 +2,8 @@
 
 ghost use Rattle.std.specs.Io.{ReadsAtMost, WritesAtMost};
 
+use mps_lines::MAX_LINE;
+use std::alloc::Global;
 use std::io;
 use std::io::{ErrorKind, Read, Write};
 use std::net::{Shutdown, TcpStream};
@@ -56,10 +58,14 @@ const LINGER_BLOCKS: u64 = 16;
 // Reads what the client still sends, for so long a time. If a connection is closed with bytes unread, the system may take
 // back the answers that the client hasn't read yet.
 pub(crate) fn linger<R: Clock>(rt: &R, stream: &TcpStream, time: Duration) {
+    if let Some(until) = moment_after(rt, time) {
+        linger_until(rt, stream, until);
+    }
+}
+
+// The same, until a moment.
+pub(crate) fn linger_until<R: Clock>(rt: &R, stream: &TcpStream, until: Instant) {
     let _shut = stream.shutdown(Shutdown::Write);
-    let Some(until) = moment_after(rt, time) else {
-        return;
-    };
     let mut block = [0u8; 4_096];
     for _ in 0..LINGER_BLOCKS {
         match read_until(rt, stream, until, Duration::ZERO, None, &mut block) {
@@ -67,6 +73,43 @@ pub(crate) fn linger<R: Clock>(rt: &R, stream: &TcpStream, time: Duration) {
             _ => return,
         }
     }
+}
+
+// How many bytes are read at a time where a first line is awaited.
+const PIECE: usize = 512;
+
+// Reads until an LF came, or more than a first line has, and gives all that came; `None` where the connection ended, or its time.
+pub(crate) fn first_bytes<R: Read>(alloc: Global, reader: &mut R) -> Option<Vec<u8>> {
+    let mut came = Vec::new(alloc);
+    let mut piece = [0u8; PIECE];
+    for _ in 0..MAX_LINE + 1 {
+        let count = reader.read(&mut piece).ok()?;
+        let new = piece.get(..count)?;
+        came.extend_from_slice(new).ok()?;
+        if new.is_empty() {
+            return None;
+        }
+        if new.contains(&b'\n') || came.len() > MAX_LINE {
+            return Some(came);
+        }
+    }
+    None
+}
+
+// What is there already of a connection, if it is a first line, or more. Nothing is waited for.
+pub(crate) fn bytes_there(alloc: Global, stream: &TcpStream) -> Option<Vec<u8>> {
+    let mut piece = [0u8; PIECE];
+    stream.set_nonblocking(true).ok()?;
+    let looked = stream.peek(&mut piece);
+    stream.set_nonblocking(false).ok()?;
+    let there = piece.get(..looked.ok()?)?;
+    if !there.contains(&b'\n') {
+        return None;
+    }
+    let mut came = Vec::with_capacity(alloc, there.len()).ok()?;
+    let count = read_on(stream, &mut piece).ok()?;
+    came.extend_from_slice(piece.get(..count)?).ok()?;
+    Some(came)
 }
 
 // For how many milliseconds at least the rest of a line is read that is there already.

@@ -21,7 +21,8 @@ pub const MOST_JOINED: u64 = 15_360;
 /// How many of them may still owe their first line: where one more comes, the oldest is ended.
 pub const MOST_SILENT: usize = 1_024;
 
-// How many connections of one session are open at once at most: those of its roles, and some that are refused.
+// How many connections are in one session at once at most, those of its roles and some that are refused; and how many may wait
+// to be let in.
 const PLACES: usize = 64;
 
 // One session.
@@ -44,9 +45,9 @@ struct Entry {
 }
 
 impl Entry {
-    // Whether as many are in it, or wait, as may be.
+    // Whether as many wait as may. Where no place is free inside, the oldest that joined nothing makes room for the next.
     fn is_full(&self) -> bool {
-        self.inside.saturating_add(self.waiting.len() as u64) >= PLACES as u64
+        self.waiting.len() >= PLACES
     }
 }
 
@@ -90,6 +91,17 @@ pub(crate) enum Entered {
     /// The session isn't opened again.
     Barred(Arrival),
     Memory(Arrival),
+}
+
+/// What becomes of a session that was let go of.
+#[derive(Clone, Copy, Debug, PartialEq, Eq)]
+pub(crate) enum Left {
+    /// It is gone.
+    Gone,
+    /// Somebody waits for it, and it is to be opened again.
+    Wanted,
+    /// Somebody waits for it, but by now as many sessions are open as may be, and somebody is in each.
+    Full,
 }
 
 // Where there is no memory for the entry: its arrival.
@@ -181,17 +193,48 @@ impl Sessions {
         Entered::First(own)
     }
 
-    // Has the arrival wait for the session. Gives it back where there is no memory for it.
-    fn add(&mut self, number: u64, arrival: Arrival) -> Option<Arrival> {
+    // Has the arrival wait for the session, if that is open and takes it, and gives what wakes its thread. Else, or where
+    // there is no memory for it, gives the arrival back.
+    fn wait_in(&mut self, number: u64, arrival: Arrival) -> Result<Arc<Condvar, Global>, Arrival> {
+        if self.joined >= MOST_JOINED {
+            return Err(arrival);
+        }
         self.fill(number);
         let Some(entry) = self.entries.get_mut(&number) else {
-            return Some(arrival);
+            return Err(arrival);
+        };
+        if entry.barred || entry.is_full() {
+            return Err(arrival);
+        }
+        let Ok(told) = Arc::try_clone(&entry.told) else {
+            return Err(arrival);
         };
         if let Err(AllocFailed { value }) = entry.waiting.push_back(arrival) {
-            return Some(value);
+            return Err(value);
         }
         self.joined = self.joined.saturating_add(1);
-        None
+        Ok(told)
+    }
+
+    // The session goes.
+    fn remove(&mut self, number: u64) {
+        if let Some(entry) = self.entries.remove(&number) {
+            if entry.counted {
+                self.open = self.open.saturating_sub(1);
+            }
+        }
+    }
+
+    // The session is to be opened again.
+    fn reopen(&mut self, number: u64) {
+        let Some(entry) = self.entries.get_mut(&number) else {
+            return;
+        };
+        entry.shut = false;
+        if !entry.counted {
+            entry.counted = true;
+            self.open = self.open.saturating_add(1);
+        }
     }
 
     // Ends the oldest of those that owe their first line.
@@ -225,13 +268,15 @@ impl Register {
         }
     }
 
-    // Waits until one more connection may be open, and counts it.
+    // Waits until one more connection may be open, and counts it. Where as many are, the oldest that owes its first line is ended.
     pub(crate) fn lets_in<R: Wait>(&self, rt: &R) {
-        let mut sessions = self
-            .left
-            .wait_while(rt, self.sessions.lock(rt), |sessions| {
-                sessions.connections >= MOST_CONNECTIONS
-            });
+        let mut sessions = self.sessions.lock(rt);
+        if sessions.connections >= MOST_CONNECTIONS {
+            sessions.end_oldest();
+        }
+        let mut sessions = self.left.wait_while(rt, sessions, |sessions| {
+            sessions.connections >= MOST_CONNECTIONS
+        });
         sessions.connections = sessions.connections.saturating_add(1);
     }
 
@@ -280,6 +325,24 @@ impl Register {
         }
     }
 
+    // Has the arrival wait for the session, if that is open and takes it; else gives it back.
+    pub(crate) fn enter_open<R: Wait>(
+        &self,
+        rt: &R,
+        number: u64,
+        arrival: Arrival,
+    ) -> Option<Arrival> {
+        let mut sessions = self.sessions.lock(rt);
+        match sessions.wait_in(number, arrival) {
+            Ok(told) => {
+                drop(sessions);
+                told.notify_all();
+                None
+            }
+            Err(arrival) => Some(arrival),
+        }
+    }
+
     // Enters the session for the arrival.
     pub(crate) fn enter<R: Wait>(
         &self,
@@ -290,24 +353,22 @@ impl Register {
     ) -> Entered {
         let mut guard = self.sessions.lock(rt);
         let sessions = &mut *guard;
+        let arrival = match sessions.wait_in(number, arrival) {
+            Ok(told) => {
+                // after the lock, which the thread that is woken needs
+                drop(guard);
+                told.notify_all();
+                return Entered::Waits;
+            }
+            Err(arrival) => arrival,
+        };
         if sessions.joined >= MOST_JOINED {
             return Entered::Full(arrival);
         }
         match sessions.entries.get(&number) {
             Some(entry) if entry.barred => Entered::Barred(arrival),
             Some(entry) if entry.is_full() => Entered::Full(arrival),
-            Some(entry) => {
-                let Ok(told) = Arc::try_clone(&entry.told) else {
-                    return Entered::Memory(arrival);
-                };
-                if let Some(arrival) = sessions.add(number, arrival) {
-                    return Entered::Memory(arrival);
-                }
-                // after the lock, which the thread that is woken needs
-                drop(guard);
-                told.notify_all();
-                Entered::Waits
-            }
+            Some(_) => Entered::Memory(arrival),
             None => {
                 if !sessions.has_room(self.most) {
                     return Entered::Full(arrival);
@@ -338,28 +399,23 @@ impl Register {
         sessions.end_oldest();
     }
 
-    // The session was let go of, and its file is closed. Says whether that was all: else somebody waits for it again.
-    pub(crate) fn leave<R: Wait>(&self, rt: &R, number: u64) -> bool {
+    // The session was let go of, and its file is closed: it goes, unless somebody waits for it again.
+    pub(crate) fn leave<R: Wait>(&self, rt: &R, number: u64) -> Left {
         let mut guard = self.sessions.lock(rt);
         let sessions = &mut *guard;
         sessions.fill(number);
-        let Some(entry) = sessions.entries.get_mut(&number) else {
-            return true;
+        let Some(entry) = sessions.entries.get(&number) else {
+            return Left::Gone;
         };
-        let counted = entry.counted;
-        entry.shut = false;
-        entry.counted = true;
         if entry.waiting.is_empty() {
-            let _gone = sessions.entries.remove(&number);
-            if counted {
-                sessions.open = sessions.open.saturating_sub(1);
-            }
-            return true;
+            sessions.remove(number);
+            return Left::Gone;
         }
-        if !counted {
-            sessions.open = sessions.open.saturating_add(1);
+        if !entry.counted && !sessions.has_room(self.most) {
+            return Left::Full;
         }
-        false
+        sessions.reopen(number);
+        Left::Wanted
     }
 
     // Lets nobody in to the session any more.
@@ -451,7 +507,7 @@ impl Door for Queue<'_> {
     }
 
     fn yields(&self) -> bool {
-        false
+        true
     }
 
     fn next<R: Wait + Clock>(&self, rt: &R, _alloc: Global) -> Coming {

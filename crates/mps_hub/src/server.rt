@@ -336,6 +336,7 @@ pub fn serve_with<R: Threads + Wait + Clock + Eprint + Sync + 'static, G: Gate +
         connections: Some(n),
         idle: None,
         strict: false,
+        share: None,
     };
     let serving = Serving::unrecorded(rt, alloc, desk, gate);
     serve_recorded(&serving, listener, limits)

@@ -1,6 +1,7 @@
 //! The sessions of a server.
 ghost use Rattle.std.specs.Prelude.{◌≡◌, ◌≢◌, ◌+◌, ◌≤◌, ◌^◌, ◌↔◌, [], true, false, map, length, vec_capacity, IfOk};
-ghost use Rattle.std.specs.Prelude.{IfErr, IfSome, IsSome, IsErrOf, All};
+ghost use Rattle.std.specs.Prelude.{IfErr, IfSome, IsSome, IsErrOf, All, None};
+ghost use Rattle.std.specs.Option.{option_map};
 ghost use Rattle.mps_local.specs.Local.{plain};
 ghost use Rattle.mps_machine.specs.Machine.{initial};
 ghost use Rattle.mps_cell.specs.Cells.{IsDealOf};
@@ -11,6 +12,7 @@ ghost use Rattle.mps_hub.specs.Halls.{AreCellsAround, AreCellsOf, AreCellsWith, 
 ghost use Rattle.mps_hub.specs.Places.{IsOfCell};
 
 use crate::desk::{Desk, Row};
+use crate::shares::Shares;
 use mps_base::Roles;
 use mps_cell::{Cell, Deal, Pass, PassFault};
 use mps_keeper::RestoredRoom;
@@ -47,11 +49,13 @@ pub struct Hub {
     cells: Vec<Cell>,
     // until the passes are asked for
     deals: Option<Vec<Deal>>,
+    // what each role may make, if that is limited
+    shares: Option<Shares>,
 }
 
 impl Model for Hub {
     ghost use Rattle.std.specs.Prelude.{◌<◌, ◌+◌, ◌^◌, IfSome, length};
-    ghost use Rattle.std.specs.Option.{is_none};
+    ghost use Rattle.std.specs.Option.{is_none, option_map};
     ghost use Rattle.std.specs.Coded.{codes};
     ghost use Rattle.mps_local.specs.Private.Codes.{coded_local};
     ghost use Rattle.mps_hub.specs.Halls.{Hall, AreDeals};
@@ -61,7 +65,13 @@ impl Model for Hub {
 
     ghost coded = { Prim.hlevel (codes, coded_local) };
 
-    ghost view = { λ h. record { names = h.names; first = h.first; cells = h.cells.items; given = is_none h.deals } };
+    ghost view = { λ h. record {
+      names = h.names;
+      first = h.first;
+      cells = h.cells.items;
+      given = is_none h.deals;
+      share = option_map (λ s. s.most) h.shares;
+    } };
 
     ghost invariant = { λ h. AreNumbered h.names h.first h.cells.items × (h.first + length h.cells.items < 2 ^ 64)
         × IfSome h.deals (λ v. AreDeals h.cells.items v.items) };
@@ -131,6 +141,7 @@ impl Hub {
         ensures names { IfOk result (λ h. h.names ≡ names.now) }
         ensures first { IfOk result (λ h. h.first ≡ 1) }
         ensures given { IfOk result (λ h. h.given ≡ false) }
+        ensures share { IfOk result (λ h. h.share ≡ None) }
         ensures cells { IfOk result (λ h. AreCellsWith names.now (map plain types.now) 1 sessions h.cells) }
         ensures fault { IfErr result (λ fault. fault ≢ OpenFault.Memory → KeepsShut (map plain types.now) fault) }
     {
@@ -146,6 +157,7 @@ impl Hub {
         ensures names { IfOk result (λ h. h.names ≡ names.now) }
         ensures first { IfOk result (λ h. h.first ≡ 1) }
         ensures given { IfOk result (λ h. h.given ≡ false) }
+        ensures share { IfOk result (λ h. h.share ≡ None) }
         ensures cells { IfOk result (λ h. AreCellsOf names.now 1 sessions.items h.cells) }
     {
         Hub::of_numbered(alloc, names, 1, sessions)
@@ -166,6 +178,7 @@ impl Hub {
         ensures names { IfOk result (λ h. h.names ≡ names.now) }
         ensures first { IfOk result (λ h. h.first ≡ first) }
         ensures given { IfOk result (λ h. h.given ≡ false) }
+        ensures share { IfOk result (λ h. h.share ≡ None) }
         ensures cells { IfOk result (λ h. AreCellsOf names.now first sessions.items h.cells) }
     {
         let rooms = rooms_of(alloc, names, sessions)?;
@@ -187,6 +200,7 @@ impl Hub {
         ensures names { IfOk result (λ h. h.names ≡ names.now) }
         ensures first { IfOk result (λ h. h.first ≡ first) }
         ensures given { IfOk result (λ h. h.given ≡ false) }
+        ensures share { IfOk result (λ h. h.share ≡ None) }
         ensures cells { IfOk result (λ h. AreCellsAround first rooms.items h.cells) }
     {
         let mut cells = Vec::with_capacity(alloc, rooms.len())?;
@@ -201,7 +215,33 @@ impl Hub {
             first,
             cells,
             deals: Some(deals),
+            shares: None,
         })
+    }
+
+    /// The same hub, where each role may make just its share of the entries of its session, if there are shares, which are
+    /// those of the hub's sessions, in their order.
+    pub fn sharing(self, shares: Option<Shares>) -> Hub
+        ensures names { result.names ≡ self.names }
+        ensures first { result.first ≡ self.first }
+        ensures cells { result.cells ≡ self.cells }
+        ensures given { result.given ≡ self.given }
+        ensures share { result.share ≡ option_map (λ s. s.most) shares }
+    {
+        let Hub {
+            names,
+            first,
+            cells,
+            deals,
+            shares: _,
+        } = self;
+        Hub {
+            names,
+            first,
+            cells,
+            deals,
+            shares,
+        }
     }
 
     /// The right to the passes, once in the hub's life. `desk_of` makes the desk for it, and the hub stays known
@@ -210,6 +250,7 @@ impl Hub {
         ensures names { self.new.names ≡ self.old.names }
         ensures first { self.new.first ≡ self.old.first }
         ensures cells { self.new.cells ≡ self.old.cells }
+        ensures share { self.new.share ≡ self.old.share }
         ensures given { self.new.given ≡ true }
         ensures once { IsSome result ↔ (self.old.given ≡ false) }
         ensures deal { IfSome result (AreDeals self.old.cells) }
@@ -236,21 +277,29 @@ impl Hub {
     /// The desk, with all passes.
     pub fn desk_of(&self, alloc: Global, deal: HubDeal) -> Result<Desk<'_>, AllocError>
         requires deal { AreDeals self.now.cells deal }
-        ensures desk { IfOk result
-            (λ d. d ≡ record { names = self.now.names; first = self.now.first; cells = self.now.cells }) }
+        ensures desk { IfOk result (λ d. d ≡ record {
+          names = self.now.names;
+          first = self.now.first;
+          cells = self.now.cells;
+          share = self.now.share;
+        }) }
     {
         let HubDeal { deals } = deal;
         let names = &self.names;
         let rows = rows_of(alloc, self.cells.as_slice(), names.count(), deals)?;
-        Desk::new(alloc, names, self.first, rows)
+        Desk::new(alloc, names, self.first, rows, self.shares.as_ref())
     }
 
     /// Both in one: the desk, once in the hub's life. After an out-of-memory answer later calls are told that it was
     /// given.
     pub fn desk(&mut self, alloc: Global) -> Result<Desk<'_>, PassFault>
         ensures given { IsErrOf result Given ↔ (self.old.given ≡ true) }
-        ensures desk { IfOk result
-            (λ d. d ≡ record { names = self.old.names; first = self.old.first; cells = self.old.cells }) }
+        ensures desk { IfOk result (λ d. d ≡ record {
+          names = self.old.names;
+          first = self.old.first;
+          cells = self.old.cells;
+          share = self.old.share;
+        }) }
     {
         let Some(deal) = self.deal() else {
             return Err(PassFault::Given);
@@ -270,6 +319,7 @@ impl Hub {
             first: _,
             cells,
             deals: _,
+            shares: _,
         } = self;
         let rooms = Vec::with_capacity(alloc, cells.len())?;
         Ok(close_all(cells, rooms))

@@ -11,12 +11,6 @@ use Rattle.mps_program.specs.Rooms.{IsNewRoom, IsRestoredRoom}
 pub new_named : (names : List (List ℕ)) (types : List LocalType) (rooms : List RestoredRoom) → All (IsNewRoom names types) rooms → All (λ (r : RestoredRoom). r.room.names ≡ names) rooms
 new_named names types rooms all = λ i d less. ap (λ (m : RoomState). m.names) (all i d less).room
 
-pub one_named : (names : List (List ℕ)) (types : List LocalType) (r : RestoredRoom) → IsRestoredRoom names types r → r.room.names ≡ names
-one_named names types r h = h.names_are
-
-pub one_new_named : (names : List (List ℕ)) (types : List LocalType) (r : RestoredRoom) → IsNewRoom names types r → r.room.names ≡ names
-one_new_named names types r h = ap (λ (m : RoomState). m.names) h.room
-
 pub restored_named : (names : List (List ℕ)) (types : List LocalType) (rooms : List RestoredRoom) → All (IsRestoredRoom names types) rooms → All (λ (r : RestoredRoom). r.room.names ≡ names) rooms
 restored_named names types rooms all = λ i d less. (all i d less).names_are
 

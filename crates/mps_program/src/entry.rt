@@ -1,5 +1,5 @@
 //! What the program does, from its words to its exit status.
-ghost use Rattle.std.specs.Prelude.{◌≡◌, ◌≢◌, ◌≤◌, IfErr, IfOk, false};
+ghost use Rattle.std.specs.Prelude.{◌≡◌, ◌≢◌, ◌*◌, ◌<◌, ◌≤◌, IfErr, IfOk, None, Some, false};
 ghost use Rattle.std.specs.Process.{exit_status};
 ghost use Rattle.mps_program.specs.Ends.{EndsAs, IsObeyed, status_after};
 ghost use Rattle.mps_program.specs.Faults.{status_of, without};
@@ -14,6 +14,7 @@ use crate::own_files::OwnFiles;
 use crate::running::run_file;
 use crate::serving::{Service, serve_file};
 use mps_hub::Limits;
+use mps_room::MAX_ENTRIES;
 use mps_words::{Order, Task, order, words_of};
 use std::fs::File;
 use std::net::{Net, TcpListener, TcpStream};
@@ -68,6 +69,17 @@ fn work_on<'a, R: Files + Input + AllocGlobal + Print + Eprint>(
     Ok(0)
 }
 
+// How many entries of its session each role may make whose share is so many percent of them; not limited, where it is all.
+fn share_of(percent: u64) -> Option<u64>
+    ensures part { percent < 100 → result ≡ Some (1000 * percent) }
+    ensures all { 100 ≤ percent → result ≡ None }
+{
+    if percent >= 100 {
+        return None;
+    }
+    Some(MAX_ENTRIES as u64 / 100 * percent)
+}
+
 /// Does what the words say, of which the first is the program's name, and gives the exit status: 1
 /// where two scripts differ, or a strict run met a refusal, else 0.
 pub fn obey<
@@ -98,6 +110,7 @@ pub fn obey<
             first,
             connections,
             idle,
+            share,
             journal,
             verbose,
         } => {
@@ -105,6 +118,7 @@ pub fn obey<
                 connections,
                 idle: idle.map(|seconds| Duration::from_secs(seconds)),
                 strict: journal.is_some_and(|journal| journal.strict),
+                share: share_of(share),
             };
             let service = Service {
                 port,
@@ -122,6 +136,7 @@ pub fn obey<
             open,
             keep,
             idle,
+            share,
             journal,
             verbose,
         } => {
@@ -133,6 +148,7 @@ pub fn obey<
                     connections: None,
                     idle: idle.map(|seconds| Duration::from_secs(seconds)),
                     strict: false,
+                    share: share_of(share),
                 },
                 journal,
             };

@@ -96,21 +96,23 @@ impl<'o, 'a, F: OwnFiles + AllocGlobal + Eprint + Wait> House<'o, 'a, F> {
         session: u64,
         barred: Unsynced,
     ) -> Result<OpenSession<OverWrite<JournalFile>, JournalDisk>, ToolFault<'a>>
+        ensures one { IfOk result (λ opened. length opened.rooms.items ≡ 1) }
         ensures few { IfOk result (λ opened. length opened.keepers.items ≤ 1) }
         ensures fault { IfErr result (IsOneFault session) }
     {
         let alloc = self.rt.alloc();
+        let mut rooms = Vec::with_capacity(alloc, 1)?;
         let mut keepers = Vec::with_capacity(alloc, 1)?;
-        let room = match &self.records {
+        match &self.records {
             Some(records) => {
                 let (room, keeper) = self.recorded(records, session, Arc::try_clone(&barred)?)?;
+                rooms.push_reserved(room);
                 keepers.push_reserved(Some(keeper));
-                room
             }
-            None => room_of(alloc, self.opening)?,
-        };
+            None => rooms.push_reserved(room_of(alloc, self.opening)?),
+        }
         Ok(OpenSession {
-            room,
+            rooms,
             keepers,
             barred,
         })
@@ -118,6 +120,7 @@ impl<'o, 'a, F: OwnFiles + AllocGlobal + Eprint + Wait> House<'o, 'a, F> {
 
     // Opens the session.
     fn tried(&self, session: u64) -> Tried<'a>
+        ensures one { IfOk result.0 (λ opened. length opened.rooms.items ≡ 1) }
         ensures few { IfOk result.0 (λ opened. length opened.keepers.items ≤ 1) }
     {
         let Ok(barred) = Arc::new(self.rt.alloc(), AtomicBool::new(false)) else {

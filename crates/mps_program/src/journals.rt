@@ -28,7 +28,7 @@ use std::os::unix::fs::FileExt;
 use std::rt::Files;
 use std::sync::Arc;
 use std::sync::atomic::AtomicBool;
-use std::{fs, io};
+use std::{fs, io, mem};
 
 // How many bytes the mark of a file has, with its LF.
 const MARK: u64 = 18;
@@ -445,7 +445,11 @@ impl<'o, 'a> Folder<'o, 'a> {
         };
         let chain = marked(self.alloc, &file, about, restored.lines, restored.chain)?;
         let (sink, disk) = parted(self.alloc, file, about, note, unsynced)?;
-        disk.sync_all()?;
+        if let Err(why) = disk.sync_all() {
+            // the file stays open, and so locked, that no other process takes for kept what the system shows of it
+            mem::forget(disk);
+            return Err(why);
+        }
         let book = Book::new(OverWrite::new(sink), restored.lines, chain.seal);
         Ok(Keeper::new(self.alloc, book, Some(disk))?)
     }

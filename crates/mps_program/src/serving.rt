@@ -17,7 +17,7 @@ use crate::own_files::OwnFiles;
 use crate::rooms::rooms_of;
 use mps_base::write_number;
 use mps_dev::{OverWrite, Sink};
-use mps_hub::{Hub, Limits, ServeFault, Serving, Unguarded, first_lost, serve_recorded};
+use mps_hub::{Hub, Limits, ServeFault, Serving, Shares, Unguarded, first_lost, serve_recorded};
 use mps_open::Opening;
 use mps_room::Room;
 use mps_words::JournalFolder;
@@ -408,7 +408,8 @@ where
         refused,
     } = sessions_of(rt, &opening, first, sessions, journal, verbose)?;
     tell_refused(rt, refused, sessions, verbose)?;
-    let hub = Hub::of_restored(alloc, &opening.roles, first, rooms)?;
+    let shares = Shares::of(alloc, limits.share, rooms.as_slice())?;
+    let hub = Hub::of_restored(alloc, &opening.roles, first, rooms)?.sharing(shares);
     let mut writer = OverWrite::new(io::writer(rt));
     serve_to(rt, &mut writer, hub, keepers, port, limits, verbose)
 }

@@ -11,6 +11,7 @@ use crate::rows::{PROTOCOL, ROOM_ROWS, ROWS, Row, VERDICT};
 use crate::three::three_asked;
 use std::alloc::Global;
 use std::sync::Wait;
+use std::time::Clock;
 
 /// A group of calls.
 #[derive(Clone, Copy, PartialEq, Eq)]
@@ -122,7 +123,7 @@ pub fn name(group: Group, k: usize) -> Option<&'static str> {
 }
 
 // Makes a call that is no command.
-fn call_made<R: Wait + Eprint + 'static>(
+fn call_made<R: Wait + Clock + Eprint + 'static>(
     rt: &R,
     alloc: Global,
     call: Call,
@@ -159,7 +160,7 @@ fn call_made<R: Wait + Eprint + 'static>(
 }
 
 /// Makes the group's k-th call, from 0.
-pub fn made<R: Wait + Eprint + 'static>(
+pub fn made<R: Wait + Clock + Eprint + 'static>(
     rt: &R,
     alloc: Global,
     group: Group,

@@ -16,6 +16,7 @@ use mps_show::write_show;
 use mps_wire::{Ending, converse};
 use std::alloc::Global;
 use std::sync::Wait;
+use std::time::Clock;
 
 // A command, and an answer, with a text that needs memory of its own.
 const SAY: &[u8] = b"send c \"a text that is longer than what a value holds in place\"";
@@ -242,7 +243,7 @@ fn hub(alloc: Global) -> Option<Hub>
 }
 
 // How the connection ends.
-fn connect<R: Wait + Eprint + 'static>(
+fn connect<R: Wait + Clock + Eprint + 'static>(
     rt: &R,
     alloc: Global,
     desk: &Desk<'_>,
@@ -259,7 +260,7 @@ fn connect<R: Wait + Eprint + 'static>(
 }
 
 // Whether the pass is back, and a further connection finds the step, or finds that there is none.
-fn is_back<R: Wait + Eprint + 'static>(
+fn is_back<R: Wait + Clock + Eprint + 'static>(
     rt: &R,
     alloc: Global,
     desk: &Desk<'_>,
@@ -276,7 +277,7 @@ fn is_back<R: Wait + Eprint + 'static>(
 }
 
 // Attends to the connection, and judges what it was told.
-fn attends_to<R: Wait + Eprint + 'static>(
+fn attends_to<R: Wait + Clock + Eprint + 'static>(
     rt: &R,
     alloc: Global,
     desk: &Desk<'_>,
@@ -297,7 +298,7 @@ fn attends_to<R: Wait + Eprint + 'static>(
 }
 
 // What it comes to where the connection was told this, and ended so.
-fn told<R: Wait + Eprint + 'static>(
+fn told<R: Wait + Clock + Eprint + 'static>(
     rt: &R,
     alloc: Global,
     desk: &Desk<'_>,
@@ -323,7 +324,7 @@ fn is_untold(bytes: &[u8], ended: Attended) -> bool {
 }
 
 // Attends to such a connection of the desk.
-fn attends_at<R: Wait + Eprint + 'static>(
+fn attends_at<R: Wait + Clock + Eprint + 'static>(
     rt: &R,
     alloc: Global,
     desk: &Desk<'_>,
@@ -334,7 +335,11 @@ fn attends_at<R: Wait + Eprint + 'static>(
 }
 
 /// Attends to a connection that joins and sends one command.
-pub fn attends<R: Wait + Eprint + 'static>(rt: &R, alloc: Global, until: Until) -> Option<Outcome> {
+pub fn attends<R: Wait + Clock + Eprint + 'static>(
+    rt: &R,
+    alloc: Global,
+    until: Until,
+) -> Option<Outcome> {
     let mut hub = hub(alloc)?;
     let desk = hub.desk(alloc).ok()?;
     attends_at(rt, alloc, &desk, until)

@@ -23,6 +23,7 @@ use std::env;
 use std::io::Print;
 use std::process::ExitCode;
 use std::sync::Wait;
+use std::time::Clock;
 
 // More calls than a group has.
 const MANY: usize = 99;
@@ -38,7 +39,7 @@ fn status(outcome: Option<Outcome>) -> u8 {
 }
 
 // Makes the group's call of that name, and gives the status.
-fn called<R: AllocGlobal + Wait + Eprint + 'static>(
+fn called<R: AllocGlobal + Wait + Clock + Eprint + 'static>(
     rt: &R,
     group: Group,
     word: &str,
@@ -53,7 +54,7 @@ fn called<R: AllocGlobal + Wait + Eprint + 'static>(
 }
 
 // Makes the call that the words name, of which the first is the program's own name.
-fn asked<R: AllocGlobal + Wait + Eprint + 'static>(rt: &R, words: &[String]) -> u8 {
+fn asked<R: AllocGlobal + Wait + Clock + Eprint + 'static>(rt: &R, words: &[String]) -> u8 {
     let [_, group, word, until] = words else {
         return 2;
     };
@@ -65,7 +66,7 @@ fn asked<R: AllocGlobal + Wait + Eprint + 'static>(rt: &R, words: &[String]) -> 
 
 // Makes each call of the group, and prints its name after the group's word. Gives the status of the first that isn't
 // answered.
-fn all_of<R: AllocGlobal + Print + Eprint + Wait + 'static>(
+fn all_of<R: AllocGlobal + Print + Eprint + Wait + Clock + 'static>(
     rt: &R,
     word: &str,
     group: Group,
@@ -86,7 +87,7 @@ fn all_of<R: AllocGlobal + Print + Eprint + Wait + 'static>(
 }
 
 // Makes each call, and prints its name.
-fn all<R: AllocGlobal + Print + Eprint + Wait + 'static>(rt: &R) -> u8 {
+fn all<R: AllocGlobal + Print + Eprint + Wait + Clock + 'static>(rt: &R) -> u8 {
     for (word, group) in GROUPS {
         let status = all_of(rt, word, *group);
         if status != 0 {

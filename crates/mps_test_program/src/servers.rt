@@ -27,6 +27,7 @@ const ONE: Limits = Limits {
     connections: Some(1),
     idle: None,
     strict: false,
+    share: None,
 };
 
 // What a server of so many sessions of the protocol writes, where one client comes. The first session has that number.

@@ -9,6 +9,7 @@ use mps_wire::Ending;
 use std::alloc::Global;
 use std::sync::Wait;
 use std::test::Fail;
+use std::time::Clock;
 
 // ---- hubs
 
@@ -46,7 +47,7 @@ fn a_hub_gives_its_desk_once(rt: HostRuntime) -> Result<(), Fail> {
 type Row<'t> = (&'t [u8], Option<u64>, usize, &'t [u8], Attended);
 
 // Whether the connection comes to what its row says.
-fn is_played<R: Wait + Eprint + 'static>(
+fn is_played<R: Wait + Clock + Eprint + 'static>(
     rt: &R,
     alloc: Global,
     desk: &Desk<'_>,
@@ -65,7 +66,7 @@ fn is_played<R: Wait + Eprint + 'static>(
 
 // Each connection comes to what its row says, one after the other, or the failure has its row's place and the wanted
 // end.
-fn are_played<R: Wait + Eprint + 'static>(
+fn are_played<R: Wait + Clock + Eprint + 'static>(
     rt: &R,
     alloc: Global,
     desk: &Desk<'_>,
@@ -84,7 +85,7 @@ fn are_played<R: Wait + Eprint + 'static>(
 }
 
 // The connections come to these rows, one after the other, at the desk of the hub.
-fn plays<R: Wait + Eprint + 'static>(
+fn plays<R: Wait + Clock + Eprint + 'static>(
     rt: &R,
     alloc: Global,
     mut hub: Hub,
@@ -398,7 +399,7 @@ const EACH_ROLE: &[Row<'static>] = &[
 ];
 
 // The connections come to these rows, and come a second time.
-fn plays_twice<R: Wait + Eprint + 'static>(
+fn plays_twice<R: Wait + Clock + Eprint + 'static>(
     rt: &R,
     alloc: Global,
     mut hub: Hub,

@@ -10,6 +10,7 @@ use mps_wire::Ending;
 use std::alloc::Global;
 use std::sync::Wait;
 use std::test::Fail;
+use std::time::Clock;
 
 // The roles a and b.
 fn two_names(alloc: Global) -> Result<Roles, Fail> {
@@ -82,7 +83,7 @@ fn hub(alloc: Global) -> Result<Hub, Fail>
 
 // What a connection comes to that sends these pieces, each of which is one read at the least. Other answers are a
 // failure with the first piece.
-fn attended<R: Wait + Eprint + 'static>(
+fn attended<R: Wait + Clock + Eprint + 'static>(
     rt: &R,
     alloc: Global,
     desk: &Desk<'_>,
@@ -126,7 +127,7 @@ fn desk_of(alloc: Global, hub: &mut Hub) -> Result<Desk<'_>, Fail>
 }
 
 // How a connection ends that joins and sends so many letters.
-fn ended_after<R: Wait + Eprint + 'static>(
+fn ended_after<R: Wait + Clock + Eprint + 'static>(
     rt: &R,
     alloc: Global,
     desk: &Desk<'_>,
@@ -157,7 +158,7 @@ fn long_line(alloc: Global, letters: usize) -> Result<Vec<Vec<u8>>, Fail> {
 }
 
 // How a connection ends whose first line has so many letters, and that is answered so.
-fn ended_at<R: Wait + Eprint + 'static>(
+fn ended_at<R: Wait + Clock + Eprint + 'static>(
     rt: &R,
     alloc: Global,
     desk: &Desk<'_>,
@@ -206,7 +207,7 @@ const FIRST_LINES: &[(&[u8], &[u8])] = &[
 ];
 
 // How a connection ends that sends this line alone, and is answered so.
-fn joining<R: Wait + Eprint + 'static>(
+fn joining<R: Wait + Clock + Eprint + 'static>(
     rt: &R,
     alloc: Global,
     desk: &Desk<'_>,
@@ -230,7 +231,7 @@ fn a_first_line_joins_or_is_told_why_not(rt: HostRuntime) -> Result<(), Fail> {
 }
 
 // Whether a's pass is refused as taken while it is, and not once it is given back.
-fn is_taken<R: Wait + Eprint + 'static>(
+fn is_taken<R: Wait + Clock + Eprint + 'static>(
     rt: &R,
     alloc: Global,
     desk: &Desk<'_>,

@@ -16,6 +16,7 @@ use std::alloc::Global;
 use std::process::Abort;
 use std::sync::Wait;
 use std::test::Fail;
+use std::time::Clock;
 
 // ---- lines
 
@@ -500,7 +501,7 @@ fn what_was_recorded_is_read_again(rt: HostRuntime) -> Result<(), Fail> {
 // ---- sessions
 
 // What a connection is answered that sends these lines.
-fn answers<R: Wait + Eprint + 'static>(
+fn answers<R: Wait + Clock + Eprint + 'static>(
     rt: &R,
     alloc: Global,
     desk: &Desk<'_>,
@@ -520,7 +521,7 @@ fn answers<R: Wait + Eprint + 'static>(
 }
 
 // Whether a connection that sends these lines is answered so.
-fn is_told<R: Wait + Eprint + 'static>(
+fn is_told<R: Wait + Clock + Eprint + 'static>(
     rt: &R,
     alloc: Global,
     desk: &Desk<'_>,

@@ -24,6 +24,9 @@ use thiserror::Error;
 /// How many bytes a conversation asks for at a time.
 pub const CONVERSATION_BLOCK: usize = 4_096;
 
+// The space that is kept for the next reply, in bytes. What a longer one took is given back.
+const LARGEST_KEPT: usize = 65_536;
+
 /// How a conversation ended.
 #[derive(Clone, Copy, Debug, PartialEq, Eq)]
 pub enum Ending {
@@ -109,7 +112,11 @@ impl Conversation {
         if !caller.may_tell() {
             return Err(Broken::Untold);
         }
-        match send_all(writer, self.text.as_slice()) {
+        let sent = send_all(writer, self.text.as_slice());
+        if self.text.capacity() > LARGEST_KEPT {
+            self.text = Vec::new(self.alloc);
+        }
+        match sent {
             Ok(()) => Ok(()),
             Err(Failed) => Err(Broken::Write),
         }

@@ -229,6 +229,34 @@ const KEEP: Word = Word {
     range: Some(KEEP_SECONDS),
 };
 
+// How many percent of the entries of its session each role may make.
+const SHARES: Range = Range {
+    least: 1,
+    most: 100,
+};
+
+// How many it may of a served session, where it isn't given: as many as there are.
+const SERVED_SHARE: u64 = 100;
+
+// How many of a hosted one.
+const HOSTED_SHARE: u64 = 50;
+
+// How much of a served session each role may fill.
+const SHARE: Word = Word {
+    name: "share",
+    help: "How many percent of the 100000 entries of its session each role may make, 1 to 100; 100, if it isn't given",
+    given: Given::Sometimes,
+    range: Some(SHARES),
+};
+
+// How much of a hosted one.
+const SHARE_OF_HOST: Word = Word {
+    name: "share",
+    help: "How many percent of the 100000 entries of its session each role may make, 1 to 100; 50, if it isn't given",
+    given: Given::Sometimes,
+    range: Some(SHARES),
+};
+
 // A command of the program, the words that have to follow it, and its options. Of some options one at least is given.
 struct Form {
     name: &'static str,
@@ -275,6 +303,7 @@ const FORMS: &[Form] = &[
             SYNC,
             STRICT_SESSIONS,
             IDLE,
+            SHARE,
         ],
         some_of: &["connections", "endless", "journal"],
     },
@@ -282,7 +311,7 @@ const FORMS: &[Form] = &[
         name: "host",
         about: "Opens each session that somebody joins",
         words: &[FILE],
-        options: &[PORT, JOURNAL, SYNC, KEEP, OPEN, IDLE],
+        options: &[PORT, JOURNAL, SYNC, KEEP, OPEN, IDLE, SHARE_OF_HOST],
         some_of: &[],
     },
 ];
@@ -415,6 +444,7 @@ fn serve_in<'a>(file: &'a str, found: &ArgMatches<'a>) -> Option<Order<'a>>
     let first = bound_in(found, "first", FIRST_NUMBERS)?.unwrap_or(1);
     let connections = bound_in(found, "connections", CONNECTION_COUNTS)?;
     let idle = bound_in(found, "idle", IDLE_SECONDS)?;
+    let share = bound_in(found, "share", SHARES)?.unwrap_or(SERVED_SHARE);
     let journal = journal_in(found, found.get_flag("strict"));
     let verbose = found.get_flag(VERBOSE);
     Some(Order::Serve {
@@ -424,6 +454,7 @@ fn serve_in<'a>(file: &'a str, found: &ArgMatches<'a>) -> Option<Order<'a>>
         first,
         connections,
         idle,
+        share,
         journal,
         verbose,
     })
@@ -437,6 +468,7 @@ fn host_in<'a>(file: &'a str, found: &ArgMatches<'a>) -> Option<Order<'a>>
     let open = bound_in(found, "open", OPEN_COUNTS)?.unwrap_or(OPEN_COUNT);
     let keep = bound_in(found, "keep", KEEP_SECONDS)?.unwrap_or(KEEP_TIME);
     let idle = bound_in(found, "idle", IDLE_SECONDS)?;
+    let share = bound_in(found, "share", SHARES)?.unwrap_or(HOSTED_SHARE);
     let journal = journal_in(found, false);
     let verbose = found.get_flag(VERBOSE);
     Some(Order::Host {
@@ -445,6 +477,7 @@ fn host_in<'a>(file: &'a str, found: &ArgMatches<'a>) -> Option<Order<'a>>
         open,
         keep,
         idle,
+        share,
         journal,
         verbose,
     })

@@ -3,14 +3,16 @@ use Rattle.std.proofs.Common.{sym, ◌∙◌}
 use Rattle.mps_wire.specs.Streams.{streams}
 use Rattle.mps_wire.proofs.Making.{ended_keeps}
 use Rattle.mps_keeper.specs.Holds.{records_of, whole_of}
+use Rattle.mps_cell.specs.Calls.{Calls}
+use Rattle.mps_hub.specs.SharedCalls.{keeps_value}
 use Rattle.mps_hub.proofs.Telling.{idle_whole, unused, idle_stays, ends_told}
 use Rattle.mps_hub.proofs.attending.converse_joined.Goals as goal
 
 pub returns-in-Ok-clause-cell : goal.returns-in-Ok-clause-cell
-returns-in-Ok-clause-cell g c = ended_keeps _ (λ h. h.inner.pass.cell) (λ h x a k t. t.call.pass.cell) (streams g.R.Source g.W.Sink c.args.reader.now c.send.new.writer) (streams g.R.Source g.W.Sink c.converse.new.reader c.converse.new.writer) _ _ c.converse.result c.converse.ensures.ending
+returns-in-Ok-clause-cell g c = ended_keeps _ (λ h. h.inner.inner.pass.cell) (λ h x a k t. keeps_value (λ h x a k. Calls h.pass x a k.pass) (λ h. h.pass.cell) (λ h x a k t. t.pass.cell) h.inner.left h.inner.inner x a k.inner.left k.inner.inner t.call) (streams g.R.Source g.W.Sink c.args.reader.now c.send.new.writer) (streams g.R.Source g.W.Sink c.converse.new.reader c.converse.new.writer) _ _ c.converse.result c.converse.ensures.ending
 
 pub returns-in-Ok-clause-opening : goal.returns-in-Ok-clause-opening
-returns-in-Ok-clause-opening g c = ended_keeps _ (λ h. h.inner.pass.opening) (λ h x a k t. t.call.pass.opening) (streams g.R.Source g.W.Sink c.args.reader.now c.send.new.writer) (streams g.R.Source g.W.Sink c.converse.new.reader c.converse.new.writer) _ _ c.converse.result c.converse.ensures.ending
+returns-in-Ok-clause-opening g c = ended_keeps _ (λ h. h.inner.inner.pass.opening) (λ h x a k t. keeps_value (λ h x a k. Calls h.pass x a k.pass) (λ h. h.pass.opening) (λ h x a k t. t.pass.opening) h.inner.left h.inner.inner x a k.inner.left k.inner.inner t.call) (streams g.R.Source g.W.Sink c.args.reader.now c.send.new.writer) (streams g.R.Source g.W.Sink c.converse.new.reader c.converse.new.writer) _ _ c.converse.result c.converse.ensures.ending
 
 -- where nothing is recorded nothing is lost
 pub returns-in-Ok-clause-told : goal.returns-in-Ok-clause-told
