@@ -1,11 +1,14 @@
 -- What was taken of lines with seals.
-use Rattle.std.proofs.Common.{◌≡◌, ℕ, true, List, [], ◌∷◌, ◌++◌, refl, sym, ap, subst, ◌∙◌, append_assoc, append-nil}
+use Rattle.std.proofs.Common.{◌≡◌, ℕ, ◌+◌, ◌-◌, ◌<◌, true, List, [], ◌∷◌, ◌++◌, length, take, drop, get_or, refl, sym, ap, subst, ◌∙◌, append_assoc, append-nil}
 use Rattle.std.specs.Prelude.{Option, None, Some, Result, Ok, Err, OnOk}
 use Rattle.std.specs.Option.{option_map}
 use Rattle.std.specs.Io.KnownBytes.{Appends}
 use Rattle.std.specs.List.{flat_map}
 use Rattle.std.proofs.lemmas.Grind.{flat_map-append}
-use Rattle.mps_lines.specs.Lines.{ended}
+use Rattle.std.proofs.lemmas.List.{take_rest, drop-drop}
+use Rattle.mps_lines.specs.Cuts.{Cut, cut}
+use Rattle.mps_lines.specs.Lines.{HasNoBreak, ended}
+use Rattle.mps_lines.proofs.Cutting.{cut_rest, next_cut}
 use Rattle.mps_seal.specs.Seals.{all_sealed, next_seal, seal_after, sealed}
 use Rattle.mps_keeper.specs.Books.{Sealed, TookSealed, sealed_on}
 use Rattle.mps_keeper.specs.Chains.{Reads, ReadsAll, in_front}
@@ -54,6 +57,57 @@ pub recorded : {A E : Type 0} (r : Result A E) (old new : Option (List ℕ)) (se
     → OnOk r (TookSealed (option_map (λ bytes. record { bytes = bytes; seal = seal }) old) (line ∷ []) (option_map (λ bytes. record { bytes = bytes; seal = seal' }) new))
 recorded (Ok x) old new seal seal' next line text h is text_is next_is = took_one old new seal seal' line text h text_is (is ∙ next_is)
 recorded (Err e) old new seal seal' next line text h is text_is next_is = tt
+
+-- the same of lines that were sealed together
+took_all : (old new : Option (List ℕ)) (seal seal' text : List ℕ) (lines : List (List ℕ)) → Appends old new text → text ≡ flat_map ended (all_sealed seal lines) → seal' ≡ seal_after seal lines
+    → TookSealed (option_map (λ bytes. record { bytes = bytes; seal = seal }) old) lines (option_map (λ bytes. record { bytes = bytes; seal = seal' }) new)
+took_all None new seal seal' text lines h is last = tt
+took_all (Some xs) None seal seal' text lines h is last = absurd h
+took_all (Some xs) (Some ys) seal seal' text lines h is last =
+    let bytes : ys ≡ xs ++ flat_map ended (all_sealed seal lines) = h ∙ ap (λ (x : List ℕ). xs ++ x) is in
+    λ i. record { bytes = bytes i; seal = last i }
+
+pub all_taken : {A E : Type 0} (r : Result A E) (old new : Option (List ℕ)) (seal seal' next text : List ℕ) (lines : List (List ℕ)) → OnOk r (Appends old new text) → OnOk r (seal' ≡ next) → text ≡ flat_map ended (all_sealed seal lines) → next ≡ seal_after seal lines
+    → OnOk r (TookSealed (option_map (λ bytes. record { bytes = bytes; seal = seal }) old) lines (option_map (λ bytes. record { bytes = bytes; seal = seal' }) new))
+all_taken (Ok x) old new seal seal' next text lines h is text_is next_is = took_all old new seal seal' text lines h text_is (is ∙ next_is)
+all_taken (Err e) old new seal seal' next text lines h is text_is next_is = tt
+
+-- ---- sealed together
+
+-- the rest behind a line
+rest_is : (items : List ℕ) (k : ℕ) → take (length items - (k + 1)) (drop (k + 1) items) ≡ drop 1 (drop k items)
+rest_is items k = take_rest items (k + 1) ∙ sym (drop-drop 1 k items)
+
+-- a line more, of those that are left
+module _ (items : List ℕ) (k : ℕ) (within : k < length items) (end : get_or items k 0 ≡ 10) (before : HasNoBreak (take k items)) where
+  module _ (seal next line rest : List ℕ) (was : rest ≡ take (length items - (k + 1)) (drop (k + 1) items)) (line_is : line ≡ take k items) (next_is : next ≡ next_seal seal line) where
+    is : rest ≡ drop 1 (drop k items)
+    is = was ∙ rest_is items k
+
+    of_front : next ≡ next_seal seal (take k items)
+    of_front = next_is ∙ ap (λ (l : List ℕ). next_seal seal l) line_is
+
+    pub rest_sealed : (out out' : List ℕ) → out' ≡ out ++ ended (sealed seal line) → out' ++ flat_map ended (all_sealed next (cut rest).lines) ≡ out ++ flat_map ended (all_sealed seal (cut items).lines)
+    rest_sealed out out' more =
+        let tail : List ℕ → List ℕ = λ r. flat_map ended (all_sealed (next_seal seal (take k items)) (cut r).lines) in
+        ap (λ (s : List ℕ). out' ++ flat_map ended (all_sealed s (cut rest).lines)) of_front
+        ∙ ap (λ (x : List ℕ). x ++ tail rest) (more ∙ ap (λ (l : List ℕ). out ++ ended (sealed seal l)) line_is)
+        ∙ append_assoc out (ended (sealed seal (take k items))) (tail rest)
+        ∙ ap (λ (r : List ℕ). out ++ (ended (sealed seal (take k items)) ++ tail r)) is
+        ∙ ap (λ (c : Cut). out ++ flat_map ended (all_sealed seal c.lines)) (sym (next_cut items k within end before))
+
+    pub rest_after : seal_after next (cut rest).lines ≡ seal_after seal (cut items).lines
+    rest_after =
+        ap (λ (s : List ℕ). seal_after s (cut rest).lines) of_front
+        ∙ ap (λ (r : List ℕ). seal_after (next_seal seal (take k items)) (cut r).lines) is
+        ∙ ap (λ (c : Cut). seal_after seal c.lines) (sym (next_cut items k within end before))
+
+-- none is left
+pub none_left : (rest seal out : List ℕ) → HasNoBreak rest → out ++ flat_map ended (all_sealed seal (cut rest).lines) ≡ out
+none_left rest seal out h = ap (λ (c : Cut). out ++ flat_map ended (all_sealed seal c.lines)) (cut_rest rest h) ∙ append-nil out
+
+pub none_after : (rest seal : List ℕ) → HasNoBreak rest → seal_after seal (cut rest).lines ≡ seal
+none_after rest seal h = ap (λ (c : Cut). seal_after seal c.lines) (cut_rest rest h)
 
 -- ---- read again
 

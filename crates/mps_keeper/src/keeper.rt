@@ -1,16 +1,16 @@
 //! The file of a journal that the connections of a session share.
 ghost use Rattle.std.specs.Prelude.{◌≡◌, ◌+◌, ◌++◌, [], true, false, OnOk, OnErr};
-ghost use Rattle.std.specs.Io.KnownBytes.{Appends};
+ghost use Rattle.mps_lines.specs.Cuts.{cut};
 ghost use Rattle.mps_lines.specs.Lines.{ended};
-ghost use Rattle.mps_seal.specs.Seals.{next_seal, sealed};
+ghost use Rattle.mps_keeper.specs.Books.{TookSealed};
 
-use crate::book::Book;
+use crate::book::{Book, NotRecorded};
 use crate::recorder::Recorder;
-use crate::sealing::end_line;
+use crate::sealing::end_lines;
 use mps_base::MAX_ROLES;
 use mps_dev::Sink;
 use mps_lines::MAX_LINE;
-use mps_seal::{SEAL_BYTES, Seal};
+use mps_seal::SEAL_BYTES;
 use std::alloc::{AllocError, Global};
 use std::fs::File;
 use std::mem;
@@ -45,36 +45,29 @@ struct Waiting {
     text: Vec<u8>,
     // how many lines came so far, those that are written included
     lines: u64,
-    // of the newest of them
-    seal: Seal,
     whole: bool,
 }
 
 impl Waiting {
-    // Adds the line with its seal and an LF. Where memory runs out there is nothing more than before. Apart from
-    // `gather`, where each failure leads to the same.
+    // Adds the line with an LF. Where memory runs out there is nothing more than before. Apart from `add`, where each failure
+    // leads to the same.
     fn push(&mut self, line: &mut Vec<u8>) -> Result<(), AllocError>
         ensures whole { self.new.whole ≡ self.old.whole }
         ensures lines { self.new.lines ≡ self.old.lines }
-        ensures text { OnOk result
-            (self.new.text.items ≡ self.old.text.items ++ ended (sealed self.old.seal line.old.items)) }
-        ensures seal { OnOk result (self.new.seal ≡ next_seal self.old.seal line.old.items) }
+        ensures text { OnOk result (self.new.text.items ≡ self.old.text.items ++ ended line.old.items) }
         ensures lost { OnErr result (self.new.text.items ≡ self.old.text.items) }
     {
-        let seal = end_line(&self.seal, line)?;
-        self.text.extend_from_slice(line.as_slice())?;
-        self.seal = seal;
-        Ok(())
+        line.push(b'\n')?;
+        self.text.extend_from_slice(line.as_slice())
     }
 
-    // Adds the nth line, from 1, which has to be the next one, with its seal and an LF.
+    // Adds the nth line, from 1, which has to be the next one, with an LF.
     fn add(&mut self, nth: u64, line: &mut Vec<u8>)
         ensures once { self.new.whole ≡ true → self.old.whole ≡ true }
         ensures next { self.new.whole ≡ true → nth ≡ self.old.lines + 1 }
         ensures lines { self.new.whole ≡ true → self.new.lines ≡ nth }
         ensures text { self.new.whole ≡ true
-            → self.new.text.items ≡ self.old.text.items ++ ended (sealed self.old.seal line.old.items) }
-        ensures seal { self.new.whole ≡ true → self.new.seal ≡ next_seal self.old.seal line.old.items }
+            → self.new.text.items ≡ self.old.text.items ++ ended line.old.items }
         ensures lost { self.new.whole ≡ false → self.new.text.items ≡ self.old.text.items }
     {
         if self.whole && self.lines.checked_add(1) == Some(nth) && self.push(line).is_ok() {
@@ -85,11 +78,40 @@ impl Waiting {
     }
 }
 
-// The file, and the space that the lines are handed over in.
+// The file, and the space that the lines are handed over in, and get their seals in.
 #[derive(Drop)]
 struct Writing<W: Sink> {
     book: Book<W>,
     text: Vec<u8>,
+    line: Vec<u8>,
+    sealed: Vec<u8>,
+}
+
+impl<W: Sink> Writing<W> {
+    ghost use Rattle.mps_keeper.specs.BookParts.{lines_of, taken_of};
+
+    // Adds the lines that were handed over to the book, which has so many then. They get their seals here, and not where they
+    // gather, since others wait there meanwhile.
+    #[tactic(auto, using(crate::proofs::Sealed::all_taken))]
+    fn record(&mut self, lines: u64) -> Result<(), NotRecorded>
+        ensures taken { OnOk result
+            (TookSealed (taken_of self.old.book) (cut self.old.text.items).lines (taken_of self.new.book)) }
+        ensures lines { OnOk result (lines_of self.new.book ≡ lines) }
+        ensures emptied { self.new.text.items ≡ [] }
+    {
+        self.sealed.clear();
+        let last = end_lines(
+            self.book.seal(),
+            self.text.as_slice(),
+            &mut self.line,
+            &mut self.sealed,
+        );
+        self.text.clear();
+        match last {
+            Ok(seal) => self.book.append(self.sealed.as_slice(), lines, seal),
+            Err(AllocError) => Err(NotRecorded),
+        }
+    }
 }
 
 /// The file of a session's journal, one for all of its connections. Lines gather in the order of their entries, and one
@@ -119,17 +141,21 @@ impl<W: Sink + Drop, D: Drop> Keeper<W, D> {
     /// lost.
     pub fn new(alloc: Global, book: Book<W>, disk: Option<D>) -> Result<Keeper<W, D>, AllocError> {
         let lines = book.lines();
-        let text = lines_space(alloc)?;
         let waiting = Waiting {
             text: lines_space(alloc)?,
             lines,
-            seal: book.seal(),
             whole: true,
+        };
+        let writing = Writing {
+            book,
+            text: lines_space(alloc)?,
+            line: Vec::with_capacity(alloc, LONGEST_LINE)?,
+            sealed: lines_space(alloc)?,
         };
         Ok(Keeper {
             waiting: Mutex::new(waiting),
             came: Condvar::new(),
-            writing: Mutex::new(Writing { book, text }),
+            writing: Mutex::new(writing),
             disk,
             recorded: AtomicU64::new(lines),
             lost: AtomicBool::new(false),
@@ -167,20 +193,20 @@ impl<W: Sink, D> Keeper<W, D> {
         drop(waiting);
     }
 
-    // Hands over the lines that wait. Says how many there are now, and which seal the newest has, if none is lost.
-    // Apart from `flush`, so that lines may gather while these are written.
-    fn hand_over<R: Wait>(&self, rt: &R, text: &mut Vec<u8>) -> Option<(u64, Seal)> {
+    // Hands over the lines that wait. Says how many there are now, if none is lost. Apart from `flush`, so that lines may
+    // gather while these are written.
+    fn hand_over<R: Wait>(&self, rt: &R, text: &mut Vec<u8>) -> Option<u64> {
         let mut waiting = self.waiting.lock(rt);
         if !waiting.whole {
             return None;
         }
         mem::swap(&mut waiting.text, text);
-        Some((waiting.lines, waiting.seal))
+        Some(waiting.lines)
     }
 }
 
 impl<W: Sink, D: Disk> Keeper<W, D> {
-    ghost use Rattle.mps_keeper.specs.BookParts.{sink_of, lines_of};
+    ghost use Rattle.mps_keeper.specs.BookParts.{lines_of, taken_of};
 
     // Gives up the line that is next, and so all after it.
     fn lose<R: Wait + Eprint>(&self, rt: &R) {
@@ -197,17 +223,13 @@ impl<W: Sink, D: Disk> Keeper<W, D> {
 
     // Writes the lines that were handed over, and syncs them. Says whether they are recorded. Apart from `flush`,
     // since a function that locks can't say what it did, and this one does.
-    fn write(&self, writing: &mut Writing<W>, lines: u64, seal: Seal) -> bool
-        ensures taken { result ≡ true → Appends (W.taken (sink_of writing.old.book)) (W.taken (sink_of writing.new.book))
-            writing.old.text.items }
+    fn write(&self, writing: &mut Writing<W>, lines: u64) -> bool
+        ensures taken { result ≡ true → TookSealed (taken_of writing.old.book) (cut writing.old.text.items).lines
+            (taken_of writing.new.book) }
         ensures lines { result ≡ true → lines_of writing.new.book ≡ lines }
         ensures emptied { writing.new.text.items ≡ [] }
     {
-        let written = writing
-            .book
-            .append(writing.text.as_slice(), lines, seal)
-            .is_ok();
-        writing.text.clear();
+        let written = writing.record(lines).is_ok();
         match &self.disk {
             Some(disk) => written && disk.sync(),
             None => written,
@@ -225,9 +247,7 @@ impl<W: Sink, D: Disk> Keeper<W, D> {
             return true;
         }
         let recorded = match self.hand_over(rt, &mut writing.text) {
-            Some((lines, seal)) if lines >= count => {
-                self.write(&mut writing, lines, seal).then_some(lines)
-            }
+            Some(lines) if lines >= count => self.write(&mut writing, lines).then_some(lines),
             _ => None,
         };
         match recorded {
