@@ -33,7 +33,7 @@ from pathlib import Path
 from typing import Any
 
 import cizhmolat
-from cizhmolat import Error, News, count, name
+from cizhmolat import NOTHING_YET, Error, News, count, name
 
 __all__ = ["BadProtocol", "NoMemory", "Role", "Room"]
 
@@ -204,7 +204,7 @@ class Role(cizhmolat.Role):
                  timeout: float = 0, patience: float = 0) -> None:
         self.session, self.role = session, name(role)
         self.resumed = None
-        self._heard, self._is_settled = 0, True  # no command is ever under way
+        self._heard, self._is_settled, self.timeout = 0, True, timeout  # no command is ever under way
         self.news()  # what went before is told here
 
     def close(self) -> None:
@@ -230,20 +230,33 @@ class Role(cizhmolat.Role):
                 self.session._accepted[self.role] = self.newest + 1
         return answer
 
-    def _ask(self, command: str, limit: float, *questions: str) -> list[str]:
+    async def _ask(self, command: str, limit: float, *questions: str, wait: float = 0) -> list[str]:
         """The answer to a command line, and those to questions; nobody acts between them."""
         with self.session._turn:
             return [self.ask(command), *map(self.ask, questions)]
 
-    def _poll(self, command: str, until: float) -> tuple[str, News]:
+    async def _in_time(self, until: float, limit: float, command: str, *questions: str) -> list[str]:
+        """The same for a command that is given again after each command that others had accepted, while there is nothing yet."""
+        with self.session._turn:
+            while True:
+                answers = await self._ask(command, limit, *questions)
+                if not all(map(NOTHING_YET.fullmatch, answers)) or not self._rest(until):
+                    return answers
+
+    async def _poll(self, command: str, until: float) -> tuple[str, News]:
         """The answer to a command, and the news before it. Where steps are gone the command isn't given, and has no answer. While
         nothing waits it is given again after each command that others had accepted."""
         question = f"news {self._heard}"
         with self.session._turn:
             while True:
-                news = self._news(question, self.ask(question))
+                news = self._read_news(question, self.ask(question))
                 answer = "" if news.gone else self.ask(command)
-                left = until - time.monotonic()
-                if answer != "refused nothingqueued" or left <= 0:
+                if answer != "refused nothingqueued" or not self._rest(until):
                     return answer, news
-                self.session._turn.wait(min(left, threading.TIMEOUT_MAX))
+
+    def _rest(self, until: float) -> bool:
+        """Waits for the next command that others had accepted, where time is left."""
+        left = until - time.monotonic()
+        if left > 0:
+            self.session._turn.wait(min(left, threading.TIMEOUT_MAX))
+        return left > 0

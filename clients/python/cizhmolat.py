@@ -55,20 +55,41 @@ it ended. A Role without a file, and the first one with it, hears what goes afte
 the server, while a receipt is put back, `standing` tells whether it stands; else its message waits. So no message is lost, and
 none is received twice.
 
-A Role is used by one thread at a time. Only this module's own exceptions and ValueError, for words that no line can have, no
-port and a file of another role, are raised; a refusal has the class of its name, such as NothingQueued, and the session is
-then as it was.
+**Waiting.** A receipt, a pick and a question for news that wait are asked by a line `wait MILLISECONDS LINE`, for 20 s at a
+time, which a server with --wait answers as soon as there is something; the role's `timeout` counts from the end of these.
+Another server can't read it, which is remembered as long as the connection lasts, and is asked again and again, with pauses
+that grow from 2 ms to 0.5 s. So is one that answers early that there is nothing, as where steps of others were taken back; the
+time that it waited counts as a pause. After a broken connection the line is sent alone, so an answer that was lost comes at
+once.
+
+**Many roles in one thread.** A Waiting waits for receipts, picks and news of many roles together, by `selectors`:
+
+    with Waiting() as waiting:
+        for role in roles:
+            waiting.receive(role, "a", "x")
+        for outcome in waiting:
+            step, value = outcome.result()
+            outcome.role.send("c", value)
+
+cizhmolat_asyncio.py, which stands beside this file, has a Role for asyncio.
+
+A Role is used by one thread and for one call at a time. Only this module's own exceptions and ValueError, for words that no
+line can have, no port, a file of another role and a second call at a time, are raised; a refusal has the class of its name,
+such as NothingQueued, and the session is then as it was.
 """
 from __future__ import annotations
 
+import collections
 import contextlib
 import json
 import math
 import os
 import re
+import selectors
 import socket
 import time
-from collections.abc import Callable, Iterator, Sequence
+import types
+from collections.abc import Awaitable, Callable, Coroutine, Generator, Iterator, Sequence
 from typing import Any, NamedTuple, NoReturn, TypeVar, Union
 
 Value = Union[bool, int, str]
@@ -77,9 +98,13 @@ NAME = re.compile("(?!(?:roles|rec|end|int|bool|text|true|false)$)[a-z][a-z0-9_]
 TEXT = re.compile(r"[ !#-\[\]-~]{0,256}")
 ANSWER = re.compile(r"(?:done|undone|news|joined|refused)\b.*|\{.*\}")  # what any answer looks like
 DONE, UNDONE = r"done (\d+)", r"undone((?: \d+)*)"  # answers to a step forward, and to steps back
+NOTHING_YET = re.compile(r"refused nothingqueued|news \d+")  # what is answered while others have still to act
 QUESTIONS = ("news", "show")  # which change nothing, and have no number
 FULL = 100_000  # entries that a journal has at most
-LONGEST = 2_000_000  # seconds that each system's sockets take as a limit: 23 days
+LONGEST = 2_000_000  # seconds that each system takes as a limit: 23 days
+Selector: Any = getattr(selectors, "PollSelector", selectors.SelectSelector)  # what costs least for one socket
+LONGEST_WAIT = 20.0  # seconds for which one line waits at the server
+SHORTEST_PAUSE, LONGEST_PAUSE = 0.002, 0.5  # seconds between two questions
 
 
 class Error(Exception):
@@ -348,20 +373,92 @@ def pauses(least: float, most: float) -> Iterator[float]:
 
 
 def left(until: float) -> float | None:
-    """The seconds that are left until then, or None, which is no limit, for more than a socket takes. There have to be some."""
+    """The seconds that are left until then, or None, which is no limit, for more than a system takes."""
     seconds = until - time.monotonic()
-    if seconds <= 0:
-        raise TimeoutError("the time is over")
-    return seconds if seconds < LONGEST else None
+    return max(seconds, 0.0) if seconds < LONGEST else None
+
+
+# --- Calls that stop --------------------------------------------------------------------------------------------------
+
+class Need(NamedTuple):
+    """Where a call stops: until the socket is ready for that event of `selectors`, or, where there is none, for that time."""
+    stream: socket.socket | None
+    event: int
+    until: float
+
+
+@types.coroutine
+def stop(need: Need) -> Generator[Need, bool, bool]:
+    """Stops a call there. Whoever runs it goes on with whether the socket is ready; else the time is over."""
+    return (yield need)
+
+
+def is_ready(need: Need) -> bool:
+    """Whether what a call needs comes in time, for which this thread waits."""
+    seconds = left(need.until)
+    if need.stream is None:
+        time.sleep(seconds or 0)
+        return False
+    with Selector() as selector:
+        selector.register(need.stream, need.event)
+        return bool(selector.select(seconds))
+
+
+def now(call: Coroutine[Need, bool, Made]) -> Made:
+    """What a call comes to, for which this thread waits."""
+    go_on: Callable[[Any], Need] = call.send
+    given: bool | BaseException | None = None
+    try:
+        while True:
+            need = go_on(given)
+            try:
+                go_on, given = call.send, is_ready(need)
+            except BaseException as error:  # of a signal's handler, which the call takes as if it had come there
+                go_on, given = call.throw, error
+    except StopIteration as end:
+        made: Made = end.value
+        return made
+    finally:
+        call.close()  # where an exception came in between: the answer that may still come is no other line's
 
 
 class Connection:
     """A connection to a server, which answers each line with one."""
 
-    def __init__(self, address: tuple[str, int], until: float) -> None:
-        self._socket = socket.create_connection(address, timeout=left(until))
+    def __init__(self, stream: socket.socket) -> None:
+        self._socket = stream
+        self.waits = True  # whether lines may wait at the server, as far as is known
+
+    @classmethod
+    async def open(cls, address: tuple[str, int], until: float) -> Connection:
+        """A connection to the server there."""
+        seconds, fault = until - time.monotonic(), OSError("the host has no address")
+        for family, kind, protocol, _, place in socket.getaddrinfo(*address, type=socket.SOCK_STREAM):
+            try:
+                with contextlib.ExitStack() as stack:
+                    found = cls(stack.enter_context(socket.socket(family, kind, protocol)))
+                    await found._connect(place, time.monotonic() + seconds)
+                    stack.pop_all()
+                    return found
+            except OSError as error:
+                fault = error
+        raise fault
+
+    async def _connect(self, place: Any, until: float) -> None:
+        self._socket.setblocking(False)
         with contextlib.suppress(OSError):  # answers then come later
             self._socket.setsockopt(socket.IPPROTO_TCP, socket.TCP_NODELAY, 1)
+        with contextlib.suppress(BlockingIOError):  # as it goes on
+            self._socket.connect(place)
+        await self._ready(selectors.EVENT_WRITE, until)
+        fault = self._socket.getsockopt(socket.SOL_SOCKET, socket.SO_ERROR)
+        if fault:
+            raise OSError(fault, os.strerror(fault))
+
+    async def _ready(self, event: int, until: float) -> None:
+        """Stops until the socket is ready. There has to be time left."""
+        if left(until) == 0 or not await stop(Need(self._socket, event, until)):
+            raise TimeoutError("the time is over")
 
     def close(self) -> None:
         """Ends the connection."""
@@ -371,7 +468,6 @@ class Connection:
     def is_over(self) -> bool:
         """Whether the other end was seen to break off, or something came that nobody asked for."""
         try:
-            self._socket.settimeout(0)
             self._socket.recv(1)
         except BlockingIOError:
             return False
@@ -379,13 +475,21 @@ class Connection:
             pass
         return True
 
-    def talk(self, lines: Sequence[str], until: float) -> list[str]:
+    async def _send(self, text: bytes, until: float) -> None:
+        if left(until) == 0:
+            raise TimeoutError("the time is over")
+        while text:
+            try:
+                text = text[self._socket.send(text):]
+            except BlockingIOError:
+                await self._ready(selectors.EVENT_WRITE, until)
+
+    async def talk(self, lines: Sequence[str], until: float) -> list[str]:
         """The answers to these lines, which are sent in one write. They have to be there until then."""
-        self._socket.settimeout(left(until))
-        self._socket.sendall("".join(f"{line}\n" for line in lines).encode("ascii"))
+        await self._send("".join(f"{line}\n" for line in lines).encode("ascii"), until)
         came, ends = bytearray(), 0
         while ends < len(lines):
-            self._socket.settimeout(left(until))  # for each piece, lest a server that trickles is waited for without end
+            await self._ready(selectors.EVENT_READ, until)  # for each piece, lest a server that trickles is waited for without end
             piece = self._socket.recv(65536)
             if not piece:
                 raise ConnectionError("the connection broke")
@@ -443,7 +547,333 @@ class Numbers:
             raise NotKept(f"{self.path} can't be read: {error}") from error
 
 
-class Role:
+class Calls:
+    """The calls of a role. Each stops where it has to wait, and whoever runs it goes on with it: a Role here, a Waiting, or a
+    Role of cizhmolat_asyncio."""
+
+    def __init__(self, session: int, role: str, port: int, *, host: str = "127.0.0.1",
+                 numbers: str | os.PathLike[str] | None = None, timeout: float = 30, patience: float = 10) -> None:
+        self.session, self.role = count(session), name(role)
+        if not 0 <= port < 2 ** 16:
+            raise ValueError(f"no port: {port!r}")
+        self.address, self.timeout, self.patience = (host, port), timeout, patience
+        self._connection: Connection | None = None
+        self._numbers = Numbers(numbers, f"{self.session} {self.role}")
+        self.resumed: Answered | None = None
+        self._newest = self._numbers.newest  # one more than in the file, while `resumed` has the command that is there
+        self._heard = self._numbers.heard  # in the file from the next command on
+        self._is_settled = False  # whether the newest number is known, and is the session's as long as the connection lasts
+        self._is_busy = False  # while a call goes on, whose answer no other one may take
+
+    @property
+    def heard(self) -> int:
+        """Of how many entries of the journal the role has heard: `news(role.heard)` tells what was taken back since."""
+        return self._heard
+
+    @property
+    def newest(self) -> int:
+        """The newest number of the role's commands that was accepted."""
+        return self._newest
+
+    def close(self) -> None:
+        """Ends the connection, and so frees the role. The next command joins again."""
+        if self._connection is not None:
+            self._connection.close()
+        self._connection, self._is_settled = None, False
+
+    async def _start(self) -> None:
+        """Joins, and finds out how the role stands."""
+        is_new = not self._numbers.is_known
+        try:
+            await self._settle(math.inf)
+            if is_new:
+                await self._news(0, 0)  # what went before is told here
+        except BaseException:
+            self.close()
+            raise
+
+    # --- Steps ---
+
+    async def _step(self, command: str) -> int:
+        return int((await self._read(command, DONE))[1])
+
+    async def _steps_back(self, command: str) -> list[int]:
+        return steps((await self._read(command, UNDONE))[1])
+
+    async def _receive(self, peer: str, slot: str, timeout: float) -> Received:
+        found = await self._told(f"recv {name(peer)} {name(slot)}", r'done (\d+) (true|false|-?\d+|"[^"]*")', timeout)
+        return Received(int(found[1]), json.loads(found[2]))
+
+    async def _pick(self, peer: str, timeout: float) -> Picked:
+        found = await self._told(f"pick {name(peer)}", r"done (\d+) ([a-z]\w*)", timeout)
+        return Picked(int(found[1]), found[2])
+
+    async def _mark(self, mark: str) -> int:
+        return int((await self._told(f"mark {name(mark)}", DONE))[1])
+
+    async def _commit(self) -> int:
+        return int((await self._told_for_good("commit", DONE))[1])
+
+    async def _back(self, mark: str) -> list[int]:
+        return steps((await self._told_for_good(f"back {name(mark)}", UNDONE))[1])
+
+    # --- Questions ---
+
+    async def _news(self, entries: int, timeout: float) -> News:
+        question, until = f"news {count(entries)}", time.monotonic() + timeout
+        limit = until + self.timeout if timeout else math.inf
+        found = self._read_news(question, (await self._in_time(until, limit, question))[0])
+        if entries <= self._heard:
+            self._heard = found.entries
+        return found
+
+    async def _show(self) -> dict[str, Any]:
+        return self._read_shown((await self._ask("show", math.inf))[0])
+
+    async def _standing(self) -> Standing:
+        question = f"news {self._heard}"
+        told, shown = await self._ask(question, math.inf, "show")
+        entries = self._read_news(question, told).entries  # what goes after this may be shown as gone, and is told once more
+        found = self._read_standing(self._read_shown(shown))
+        self._heard = entries
+        return found
+
+    def _read_news(self, question: str, answer: str) -> News:
+        found = self._understood(question, answer, r"news (\d+)((?: \d+)*)")
+        return News(int(found[1]), steps(found[2]))
+
+    def _read_shown(self, answer: str) -> dict[str, Any]:
+        """The session of an answer to `show`."""
+        text = self._understood("show", answer, r"\{.*\}")[0]
+        try:
+            return dict(json.loads(text))
+        except ValueError:
+            self.close()
+            raise NotUnderstood(text) from None
+
+    def _read_standing(self, shown: dict[str, Any]) -> Standing:
+        """How the role stands in a session that is shown."""
+        try:
+            own = next(it for it in shown["roles"] if it["role"] == self.role)
+            steps = [Step(number, act, **dict(zip(PARTS[act], parts)))
+                     for number, role, act, *parts in shown["history"] if role == self.role]
+            return Standing(own["expects"], own["past"], dict(own["store"]), steps)
+        except (LookupError, StopIteration, TypeError, ValueError):
+            self.close()
+            raise NotUnderstood(f"{shown}, to show") from None
+
+    # --- Lines ---
+
+    async def _let_go(self) -> Answered | None:
+        self._check_free()
+        if not self._is_settled:
+            await self._settle(math.inf)
+        found = self.resumed
+        self._numbers.keep(self._newest, self._heard)
+        self.resumed = None
+        return found
+
+    async def _ask(self, command: str, limit: float, *questions: str, wait: float = 0) -> list[str]:
+        """The answer to a command line, which may wait so long at the server, and those to questions in the same write. Nothing
+        waits beyond the limit."""
+        if "\n" in command or not command.isascii():
+            raise ValueError(f"no line: {command!r}")
+        command = plain(command)
+        self._check_free()
+        if self._connection is not None and self._connection.is_over():
+            self.close()
+        if command.split(" ")[0] in QUESTIONS:
+            return await self._exchange([command, *questions], limit, wait)
+        if not self._is_settled:
+            await self._settle(limit)
+        self._is_settled = False
+        newest = self._newest
+        if self.resumed is not None and self.resumed.command == command:
+            answers = await self._exchange([f"{newest} {command}", *questions], limit)  # which is answered as before
+        else:
+            self._numbers.keep(newest, self._heard, command)
+            answers = await self._exchange([f"{newest + 1} {command}", *questions], limit, wait)
+            newest += 0 if answers[0].startswith("refused ") else 1
+        self._numbers.keep(newest, self._heard)
+        self._newest, self.resumed, self._is_settled = newest, None, True
+        return answers
+
+    async def _in_time(self, until: float, limit: float, command: str, *questions: str) -> list[str]:
+        """The same for a command that is given again while all answers say that there is nothing yet, until that time."""
+        pause = SHORTEST_PAUSE
+        while True:
+            asked = time.monotonic()
+            answers = await self._ask(command, limit, *questions, wait=min(until - asked, LONGEST_WAIT))
+            answered = time.monotonic()
+            if answered >= until or not all(map(NOTHING_YET.fullmatch, answers)):
+                return answers
+            waits = self._connection is not None and self._connection.waits
+            began = asked if waits else answered  # of the pause: also one that the server made
+            if waits and answered - asked >= LONGEST_PAUSE:
+                pause = SHORTEST_PAUSE
+            with self._alone():
+                await stop(Need(None, 0, min(began + pause, until)))
+            pause = min(2 * pause, LONGEST_PAUSE)
+
+    async def _read(self, command: str, form: str) -> re.Match[str]:
+        return self._understood(command, (await self._ask(command, math.inf))[0], form)
+
+    def _understood(self, command: str, answer: str, form: str) -> re.Match[str]:
+        """The parts of the answer. After one that isn't understood nothing that comes on this connection can be trusted."""
+        try:
+            return read(command, answer, form)
+        except NotUnderstood:
+            self.close()
+            raise
+
+    async def _told(self, command: str, form: str, timeout: float = 0) -> re.Match[str]:
+        """The parts of the answer to a command, after which no step was gone of which the role hadn't heard."""
+        until = time.monotonic() + timeout
+        answer, news = await self._poll(command, until)
+        if news.gone:
+            await self._put_back(command, answer, news, until)
+        self._heard = news.entries
+        return self._understood(command, answer, form)
+
+    async def _told_for_good(self, command: str, form: str) -> re.Match[str]:
+        """The same for a command that no undo puts back: it isn't given where steps are gone, unless it was run already and waits
+        to be given again."""
+        if not self._is_settled:
+            await self._settle(math.inf)
+        if self.resumed is None or self.resumed.command != command:
+            gone = (await self._news(self._heard, 0)).gone
+            if gone:
+                raise TakenBack(gone, command)
+        return await self._told(command, form)
+
+    async def _poll(self, command: str, until: float) -> tuple[str, News]:
+        """The answer to a command, and the news after it. While it is refused because nothing waits, and nothing is gone, it is
+        given again."""
+        question = f"news {self._heard}"
+        answer, told = await self._in_time(until, until + self.timeout, command, question)
+        return answer, self._read_news(question, told)
+
+    async def _put_back(self, command: str, answer: str, news: News, until: float) -> NoReturn:
+        """Raises TakenBack. What the command did may have been meant for another place: an undo puts it back, where one can."""
+        entries, gone = news
+        stands = answer if answer.startswith(("done", "undone")) else None
+        cause: Error | None = None
+        done = re.match(DONE, answer)
+        if done and command != "commit":
+            undo, question = f"undo {done[1]}", f"news {entries}"
+            try:
+                undone, told = await self._ask(undo, until + self.timeout, question)
+                entries, more = self._read_news(question, told)
+                gone = gone + more
+                if undone != "refused nostep":  # which says that others took it back
+                    self._understood(undo, undone, f"undone {done[1]}")
+                stands = None
+            except Error as error:
+                cause = error
+        self._heard = entries
+        raise TakenBack(gone, command, stands) from cause
+
+    # --- Numbers ---
+
+    async def _settle(self, limit: float) -> None:
+        """Finds out which number is the newest, and whether the command under way was accepted. Where none was under way, none may
+        have been."""
+        numbers = self._numbers
+        past = None if numbers.command is None else self._read_standing(self._read_shown((await self._ask("show", limit))[0])).past
+        first = numbers.newest + 1
+        for number in range(first, first + 1 if numbers.is_known else FULL + 2):
+            answer = (await self._exchange([f"{number} undo 0"], limit))[0]
+            if answer != "refused number":
+                break
+        if answer == "refused nostep":
+            self._newest, self.resumed = number - 1, None
+        else:
+            self._understood(f"{number} undo 0", answer, r"(?:un)?done.*")
+            if numbers.is_known and numbers.command is None:
+                raise WrongNumber("refused number", f"{number} undo 0")
+            step = re.match(r"done (\d+)", answer)
+            survives = None if past is None or step is None else int(step[1]) in past
+            self._newest, self.resumed = number, Answered(numbers.command, answer, survives)
+        if self.resumed is None or self.resumed.command is None:
+            numbers.keep(self._newest, self._heard)
+        self._is_settled = True
+
+    # --- The connection ---
+
+    def _check_free(self) -> None:
+        if self._is_busy:
+            raise ValueError(f"another call of {self.role} goes on")
+
+    @contextlib.contextmanager
+    def _alone(self) -> Iterator[None]:
+        """Lets no other call begin meanwhile."""
+        self._check_free()
+        self._is_busy = True
+        try:
+            yield
+        finally:
+            self._is_busy = False
+
+    async def _exchange(self, lines: Sequence[str], limit: float, wait: float = 0) -> list[str]:
+        """The answers to these lines, the first of which may wait so long at the server. Where the connection breaks they are sent
+        again. Nothing waits beyond the limit."""
+        with self._alone():
+            try:
+                if self._connection is None:
+                    await self._patiently(self._join, limit)
+                try:
+                    return await self._talk_in_time(lines, limit, wait)
+                except OSError:
+                    self.close()
+                return await self._patiently(lambda until: self._talk(lines, until), limit)
+            except BaseException:  # also one of a signal's handler: the answer that may still come is no other line's
+                self.close()
+                raise
+
+    async def _patiently(self, act: Callable[[float], Awaitable[Made]], limit: float) -> Made:
+        """What the act comes to, which is told until when it may wait, and is tried again until patience runs out."""
+        end = min(time.monotonic() + self.patience, limit)
+        for pause in pauses(0.01, LONGEST_PAUSE):
+            try:
+                return await act(min(time.monotonic() + self.timeout, end if self.patience else limit))
+            except (OSError, *PASSING) as error:
+                self.close()
+                if time.monotonic() + pause > end:
+                    if isinstance(error, PASSING):
+                        raise
+                    raise Unreachable(f"no server answers at {self.address[0]}:{self.address[1]}: {error}") from error
+            await stop(Need(None, 0, time.monotonic() + pause))
+        raise AssertionError
+
+    async def _join(self, until: float) -> Connection:
+        """A connection that acts for the role, from now on this Role's; whoever calls closes it where it can't join."""
+        self._connection = await Connection.open(self.address, until)
+        line = f"join {self.session} {self.role}"
+        read(line, (await self._connection.talk([line], until))[0], f"joined {self.session} {self.role}")
+        return self._connection
+
+    async def _talk_in_time(self, lines: Sequence[str], limit: float, wait: float) -> list[str]:
+        """The answers to these lines, the first of which may wait so long, where the server has lines that do."""
+        connection = self._connection
+        if connection is None or not connection.waits or wait <= 0:
+            return await self._talk(lines, min(time.monotonic() + self.timeout, limit))
+        waiting = [f"wait {math.ceil(1000 * wait)} {lines[0]}", *lines[1:]]
+        answers = await self._talk(waiting, min(time.monotonic() + wait + self.timeout, limit))
+        if answers[0] == "refused line":
+            answers = await self._talk(lines, min(time.monotonic() + self.timeout, limit))
+            connection.waits = answers[0] == "refused line"  # where that can't be read either, nothing is said of the other
+        return answers
+
+    async def _talk(self, lines: Sequence[str], until: float) -> list[str]:
+        """The answers to these lines on this Role's connection, or on a new one. Where there is no memory for the news after a
+        command, which may have been run, that counts as a broken connection."""
+        answers = await (self._connection or await self._join(until)).talk(lines, until)
+        if lines[-1].startswith("news ") and answers[1:] == ["refused memory"]:
+            raise ConnectionError("the server ran out of memory")
+        return answers
+
+
+class Role(Calls):
     """A role of a session, for which this program acts.
 
     session, role    the session's number, and the role's name
@@ -462,24 +892,8 @@ class Role:
 
     def __init__(self, session: int, role: str, port: int, *, host: str = "127.0.0.1",
                  numbers: str | os.PathLike[str] | None = None, timeout: float = 30, patience: float = 10) -> None:
-        self.session, self.role = count(session), name(role)
-        if not 0 <= port < 2 ** 16:
-            raise ValueError(f"no port: {port!r}")
-        self.address, self.timeout, self.patience = (host, port), timeout, patience
-        self._connection: Connection | None = None
-        self._numbers = Numbers(numbers, f"{self.session} {self.role}")
-        self.resumed: Answered | None = None
-        self._newest = self._numbers.newest  # one more than in the file, while `resumed` has the command that is there
-        self._heard = self._numbers.heard  # in the file from the next command on
-        self._is_settled = False  # whether the newest number is known, and is the session's as long as the connection lasts
-        is_new = not self._numbers.is_known
-        try:
-            self._settle(math.inf)
-            if is_new:
-                self.news()  # what went before is told here
-        except BaseException:
-            self.close()
-            raise
+        super().__init__(session, role, port, host=host, numbers=numbers, timeout=timeout, patience=patience)
+        now(self._start())
 
     def __enter__(self) -> Role:
         return self
@@ -487,289 +901,181 @@ class Role:
     def __exit__(self, *_: object) -> None:
         self.close()
 
-    def close(self) -> None:
-        """Ends the connection, and so frees the role. The next command joins again."""
-        if self._connection is not None:
-            self._connection.close()
-        self._connection, self._is_settled = None, False
-
     # --- Steps forward, of which `receive`, `pick`, `mark` and `commit` raise TakenBack where steps of the role are gone ---
 
     def send(self, peer: str, value: Value) -> int:
         """Sends the peer a value, and gives the number of the step."""
-        return self._step(f"send {name(peer)} {spelled(value)}")
+        return now(self._step(f"send {name(peer)} {spelled(value)}"))
 
     def choose(self, peer: str, label: str) -> int:
         """Chooses the branch of that label, tells the peer, and gives the number of the step."""
-        return self._step(f"choose {name(peer)} {name(label)}")
+        return now(self._step(f"choose {name(peer)} {name(label)}"))
 
     def receive(self, peer: str, slot: str, timeout: float = 60) -> Received:
-        """Receives the oldest value that waits from the peer, and keeps it in the slot. Where none waits the server is asked
-        again, with pauses that grow from 2 ms to 0.5 s; NothingQueued is raised when none has come in `timeout` seconds,
-        TakenBack as soon as steps of the role are gone, and Unreachable when the server didn't answer."""
-        found = self._told(f"recv {name(peer)} {name(slot)}", r'done (\d+) (true|false|-?\d+|"[^"]*")', timeout)
-        return Received(int(found[1]), json.loads(found[2]))
+        """Receives the oldest value that waits from the peer, and keeps it in the slot. Where none waits it is waited for:
+        NothingQueued is raised when none has come in `timeout` seconds, TakenBack as soon as steps of the role are gone, and
+        Unreachable when the server didn't answer."""
+        return now(self._receive(peer, slot, timeout))
 
     def pick(self, peer: str, timeout: float = 60) -> Picked:
         """Takes the oldest label that waits from the peer; where none waits, as with `receive`."""
-        found = self._told(f"pick {name(peer)}", r"done (\d+) ([a-z]\w*)", timeout)
-        return Picked(int(found[1]), found[2])
+        return now(self._pick(peer, timeout))
 
     def mark(self, mark: str) -> int:
         """Leaves a mark of that name, and gives the number of the step."""
-        return int(self._told(f"mark {name(mark)}", DONE)[1])
+        return now(self._mark(mark))
 
     def commit(self) -> int:
         """Makes final what the role did, with all on which that depends, and gives the number of the step."""
-        return int(self._told_for_good("commit", DONE)[1])
+        return now(self._commit())
 
     # --- Steps back, each of which gives the numbers of the steps that were taken back, the newest first ---
 
     def undo(self, step: int) -> list[int]:
         """Takes back the role's own step, where nothing depends on it."""
-        return steps(self._read(f"undo {count(step)}", UNDONE)[1])
+        return now(self._steps_back(f"undo {count(step)}"))
 
     def rollback(self, step: int) -> list[int]:
         """Takes back the role's own step, and all that depends on it, of whatever role."""
-        return steps(self._read(f"rollback {count(step)}", UNDONE)[1])
+        return now(self._steps_back(f"rollback {count(step)}"))
 
     def back(self, mark: str) -> list[int]:
         """Takes back all that the role did since its last mark of that name, and all that depends on it. TakenBack is raised
         where steps of the role are gone, since that mark may be too, and an earlier one have the name."""
-        return steps(self._told_for_good(f"back {name(mark)}", UNDONE)[1])
+        return now(self._back(mark))
 
     # --- Questions ---
 
-    @property
-    def heard(self) -> int:
-        """Of how many entries of the journal the role has heard: `news(role.heard)` tells what was taken back since."""
-        return self._heard
-
-    def news(self, entries: int = 0) -> News:
+    def news(self, entries: int = 0, timeout: float = 0) -> News:
         """Which of the role's steps others took back after the first so many entries of the journal. Ask the next time with
-        the number of entries that this gives."""
-        question = f"news {count(entries)}"
-        found = self._news(question, self.ask(question))
-        if entries <= self._heard:
-            self._heard = found.entries
-        return found
+        the number of entries that this gives. Where there are none, some are waited for, until `timeout` seconds are over."""
+        return now(self._news(entries, timeout))
 
     def show(self) -> dict[str, Any]:
         """The session: its `history`, `queues` and `roles`."""
-        return self._shown(self.ask("show"))
+        return now(self._show())
 
     def standing(self) -> Standing:
         """How the role stands in the session. A program that is started again, and goes on by this, calls `settle` first."""
-        question = f"news {self._heard}"
-        told, shown = self._ask(question, math.inf, "show")
-        entries = self._news(question, told).entries  # what goes after this may be shown as gone, and is told once more
-        found = self._standing(self._shown(shown))
-        self._heard = entries
-        return found
-
-    def _shown(self, answer: str) -> dict[str, Any]:
-        """The session of an answer to `show`."""
-        text = self._understood("show", answer, r"\{.*\}")[0]
-        try:
-            return dict(json.loads(text))
-        except ValueError:
-            self.close()
-            raise NotUnderstood(text) from None
-
-    def _standing(self, shown: dict[str, Any]) -> Standing:
-        """How the role stands in a session that is shown."""
-        try:
-            own = next(it for it in shown["roles"] if it["role"] == self.role)
-            steps = [Step(number, act, **dict(zip(PARTS[act], parts)))
-                     for number, role, act, *parts in shown["history"] if role == self.role]
-            return Standing(own["expects"], own["past"], dict(own["store"]), steps)
-        except (LookupError, StopIteration, TypeError, ValueError):
-            self.close()
-            raise NotUnderstood(f"{shown}, to show") from None
+        return now(self._standing())
 
     # --- Lines ---
-
-    @property
-    def newest(self) -> int:
-        """The newest number of the role's commands that was accepted."""
-        return self._newest
 
     def settle(self) -> Answered | None:
         """Lets go of the command under way, and gives it with its answer, if it was accepted and no program got that: a later
         command that is spelled alike is a new one. A program that is started again calls it, unless it gives that command
         again to get its answer."""
-        if not self._is_settled:
-            self._settle(math.inf)
-        found = self.resumed
-        self._numbers.keep(self._newest, self._heard)
-        self.resumed = None
-        return found
+        return now(self._let_go())
 
     def ask(self, command: str) -> str:
         """The answer to a command line, which is given without a number; refusals of it aren't raised."""
-        return self._ask(command, math.inf)[0]
+        return now(self._ask(command, math.inf))[0]
 
-    def _ask(self, command: str, limit: float, *questions: str) -> list[str]:
-        """The answer to a command line, and those to questions in the same write, for which nothing waits beyond the limit."""
-        if "\n" in command or not command.isascii():
-            raise ValueError(f"no line: {command!r}")
-        command = plain(command)
-        if self._connection is not None and self._connection.is_over():
-            self.close()
-        if command.split(" ")[0] in QUESTIONS:
-            return self._exchange([command, *questions], limit)
-        if not self._is_settled:
-            self._settle(limit)
-        self._is_settled = False
-        newest = self._newest
-        if self.resumed is not None and self.resumed.command == command:
-            answers = self._exchange([f"{newest} {command}", *questions], limit)  # which is answered as before
-        else:
-            self._numbers.keep(newest, self._heard, command)
-            answers = self._exchange([f"{newest + 1} {command}", *questions], limit)
-            newest += 0 if answers[0].startswith("refused ") else 1
-        self._numbers.keep(newest, self._heard)
-        self._newest, self.resumed, self._is_settled = newest, None, True
-        return answers
 
-    def _read(self, command: str, form: str) -> re.Match[str]:
-        return self._understood(command, self.ask(command), form)
+# --- Many roles in one thread -----------------------------------------------------------------------------------------
 
-    def _understood(self, command: str, answer: str, form: str) -> re.Match[str]:
-        """The parts of the answer. After one that isn't understood nothing that comes on this connection can be trusted."""
-        try:
-            return read(command, answer, form)
-        except NotUnderstood:
-            self.close()
-            raise
+class Outcome(NamedTuple):
+    """What came of a wait of the role."""
+    role: Role
+    made: Received | Picked | News | None
+    error: Error | None = None
 
-    def _step(self, command: str) -> int:
-        return int(self._read(command, DONE)[1])
+    def result(self) -> Any:
+        """What the Role's method gives. What it raises is raised here."""
+        if self.error is not None:
+            raise self.error
+        return self.made
 
-    def _news(self, question: str, answer: str) -> News:
-        found = self._understood(question, answer, r"news (\d+)((?: \d+)*)")
-        return News(int(found[1]), steps(found[2]))
 
-    def _told(self, command: str, form: str, timeout: float = 0) -> re.Match[str]:
-        """The parts of the answer to a command, after which no step was gone of which the role hadn't heard."""
+class Stopped:
+    """A call of a role, and what it needs to go on."""
+    need: Need
+
+    def __init__(self, role: Role, call: Coroutine[Need, bool | None, Any]) -> None:
+        self.role, self.call = role, call
+
+
+class Waiting:
+    """Receipts, picks and questions for news of many roles, which wait together in one thread.
+
+    `receive`, `pick` and `news` begin a wait, with the words of the Role's method after the role. A `for` gives the Outcome of each
+    wait in the order in which they end, until none goes on; more may begin meanwhile, and all of them go on while one is waited
+    for. Till a role's wait has ended no other call of it can be given. `close`, or the end of a `with`, gives up those that go on,
+    as an exception of a signal's handler does: each role's next call joins again, and a receipt may have been run."""
+
+    def __init__(self) -> None:
+        self._selector = selectors.DefaultSelector()
+        self._stopped: set[Stopped] = set()
+        self._ended: collections.deque[Outcome] = collections.deque()
+
+    def __enter__(self) -> Waiting:
+        return self
+
+    def __exit__(self, *_: object) -> None:
+        self.close()
+
+    def __len__(self) -> int:
+        """How many outcomes are still to be given."""
+        return len(self._stopped) + len(self._ended)
+
+    def __iter__(self) -> Iterator[Outcome]:
+        while (outcome := self.next()) is not None:
+            yield outcome
+
+    def close(self) -> None:
+        """Gives up the waits that go on."""
+        while self._stopped:
+            self._stopped.pop().call.close()
+        self._selector.close()
+
+    def receive(self, role: Role, peer: str, slot: str, timeout: float = 60) -> None:
+        """Begins a receipt."""
+        self._begin(role, role._receive(peer, slot, timeout))
+
+    def pick(self, role: Role, peer: str, timeout: float = 60) -> None:
+        """Begins a pick."""
+        self._begin(role, role._pick(peer, timeout))
+
+    def news(self, role: Role, entries: int = 0, timeout: float = 60) -> None:
+        """Begins a question for news."""
+        self._begin(role, role._news(entries, timeout))
+
+    def next(self, timeout: float = math.inf) -> Outcome | None:
+        """The outcome of the next wait that ends; None where none does in so many seconds, or none goes on."""
         until = time.monotonic() + timeout
-        answer, news = self._poll(command, until)
-        if news.gone:
-            self._put_back(command, answer, news, until)
-        self._heard = news.entries
-        return self._understood(command, answer, form)
+        while not self._ended and self._stopped:
+            self._turn(until)
+            if not self._ended and time.monotonic() >= until:
+                return None
+        return self._ended.popleft() if self._ended else None
 
-    def _told_for_good(self, command: str, form: str) -> re.Match[str]:
-        """The same for a command that no undo puts back: it isn't given where steps are gone, unless it was run already and waits
-        to be given again."""
-        if not self._is_settled:
-            self._settle(math.inf)
-        if self.resumed is None or self.resumed.command != command:
-            gone = self.news(self._heard).gone
-            if gone:
-                raise TakenBack(gone, command)
-        return self._told(command, form)
+    def _begin(self, role: Role, call: Coroutine[Any, Any, Any]) -> None:
+        self._run(Stopped(role, call), None)
 
-    def _poll(self, command: str, until: float) -> tuple[str, News]:
-        """The answer to a command, and the news after it. While it is refused because nothing waits, and nothing is gone, it is
-        given again."""
-        question = f"news {self._heard}"
-        for pause in pauses(0.002, 0.5):
-            answer, told = self._ask(command, until + self.timeout, question)
-            news = self._news(question, told)
-            rest = until - time.monotonic()
-            if answer != "refused nothingqueued" or news.gone or rest <= 0:
-                break
-            time.sleep(min(pause, rest))
-        return answer, news
+    def _turn(self, until: float) -> None:
+        """Waits until calls can go on, and goes on with them."""
+        first = min(it.need.until for it in self._stopped)
+        for key, _ in self._selector.select(left(min(first, until))):
+            self._go_on(key.data, True)
+        if time.monotonic() >= first:
+            for it in [it for it in self._stopped if it.need.until <= time.monotonic()]:
+                self._go_on(it, False)
 
-    def _put_back(self, command: str, answer: str, news: News, until: float) -> NoReturn:
-        """Raises TakenBack. What the command did may have been meant for another place: an undo puts it back, where one can."""
-        entries, gone = news
-        stands = answer if answer.startswith(("done", "undone")) else None
-        cause: Error | None = None
-        done = re.match(DONE, answer)
-        if done and command != "commit":
-            undo, question = f"undo {done[1]}", f"news {entries}"
-            try:
-                undone, told = self._ask(undo, until + self.timeout, question)
-                entries, more = self._news(question, told)
-                gone = gone + more
-                if undone != "refused nostep":  # which says that others took it back
-                    self._understood(undo, undone, f"undone {done[1]}")
-                stands = None
-            except Error as error:
-                cause = error
-        self._heard = entries
-        raise TakenBack(gone, command, stands) from cause
+    def _go_on(self, it: Stopped, is_ready: bool) -> None:
+        self._stopped.remove(it)
+        if it.need.stream is not None:
+            self._selector.unregister(it.need.stream)
+        self._run(it, is_ready)
 
-    # --- Numbers ---
-
-    def _settle(self, limit: float) -> None:
-        """Finds out which number is the newest, and whether the command under way was accepted. Where none was under way, none may
-        have been."""
-        numbers = self._numbers
-        past = None if numbers.command is None else self._standing(self._shown(self._ask("show", limit)[0])).past
-        first = numbers.newest + 1
-        for number in range(first, first + 1 if numbers.is_known else FULL + 2):
-            answer = self._exchange([f"{number} undo 0"], limit)[0]
-            if answer != "refused number":
-                break
-        if answer == "refused nostep":
-            self._newest, self.resumed = number - 1, None
-        else:
-            self._understood(f"{number} undo 0", answer, r"(?:un)?done.*")
-            if numbers.is_known and numbers.command is None:
-                raise WrongNumber("refused number", f"{number} undo 0")
-            step = re.match(r"done (\d+)", answer)
-            survives = None if past is None or step is None else int(step[1]) in past
-            self._newest, self.resumed = number, Answered(numbers.command, answer, survives)
-        if self.resumed is None or self.resumed.command is None:
-            numbers.keep(self._newest, self._heard)
-        self._is_settled = True
-
-    # --- The connection ---
-
-    def _exchange(self, lines: Sequence[str], limit: float) -> list[str]:
-        """The answers to these lines, which are sent again where the connection breaks. Nothing waits beyond the limit."""
+    def _run(self, it: Stopped, is_ready: bool | None) -> None:
+        """Runs a call until it stops again, or ends."""
         try:
-            if self._connection is None:
-                self._patiently(self._join, limit)
-            try:
-                return self._talk(lines, min(time.monotonic() + self.timeout, limit))
-            except OSError:
-                self.close()
-            return self._patiently(lambda until: self._talk(lines, until), limit)
-        except BaseException:  # also one of a signal's handler: the answer that may still come is no other line's
-            self.close()
-            raise
-
-    def _patiently(self, act: Callable[[float], Made], limit: float) -> Made:
-        """What the act comes to, which is told until when it may wait, and is tried again until patience runs out."""
-        end = min(time.monotonic() + self.patience, limit)
-        for pause in pauses(0.01, 0.5):
-            try:
-                return act(min(time.monotonic() + self.timeout, end if self.patience else limit))
-            except (OSError, *PASSING) as error:
-                self.close()
-                if time.monotonic() + pause > end:
-                    if isinstance(error, PASSING):
-                        raise
-                    raise Unreachable(f"no server answers at {self.address[0]}:{self.address[1]}: {error}") from error
-            time.sleep(pause)
-        raise AssertionError
-
-    def _join(self, until: float) -> Connection:
-        """A connection that acts for the role, from now on this Role's; whoever calls closes it where it can't join."""
-        self._connection = Connection(self.address, until)
-        line = f"join {self.session} {self.role}"
-        read(line, self._connection.talk([line], until)[0], f"joined {self.session} {self.role}")
-        return self._connection
-
-    def _talk(self, lines: Sequence[str], until: float) -> list[str]:
-        """The answers to these lines on this Role's connection, or on a new one. Where there is no memory for the news after a
-        command, which may have been run, that counts as a broken connection."""
-        answers = (self._connection or self._join(until)).talk(lines, until)
-        if lines[-1].startswith("news ") and answers[1:] == ["refused memory"]:
-            raise ConnectionError("the server ran out of memory")
-        return answers
+            it.need = it.call.send(is_ready)
+        except StopIteration as end:
+            self._ended.append(Outcome(it.role, end.value))
+        except Error as error:
+            self._ended.append(Outcome(it.role, None, error))
+        else:
+            self._stopped.add(it)
+            if it.need.stream is not None:
+                self._selector.register(it.need.stream, it.need.event, it)

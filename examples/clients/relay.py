@@ -39,9 +39,7 @@ def c(role):
 
 def lost(role):
     """The steps that others took back, as soon as there are some."""
-    while not (news := role.news(role.heard)).gone:
-        time.sleep(PAUSE)
-    return news.gone
+    return role.news(role.heard, timeout=60).gone
 
 
 def play(port, session, part):

@@ -22,6 +22,7 @@ use Rattle.mps_hub.specs.contracts.desk.Row as row
 use Rattle.mps_hub.specs.contracts.desk.Row.TheInside as row_inside
 use Rattle.mps_hub.specs.contracts.lock.Steady as steady
 use Rattle.mps_hub.proofs.shares.Shares.TheSendSync as shares
+use Rattle.mps_hub.proofs.waiting.Waits.TheSendSync as waits
 use Rattle.mps_hub.specs.contracts.lock.SteadyTableRuleSnapshot.TheImpl as rule
 
 -- a table of what may go to another thread
@@ -48,7 +49,7 @@ module _ (κ : NamedLft) where
   places_send = search (view_send, places_inside_send)
 
   desk_inside_sync : IsSync (desk_inside.the_row κ)
-  desk_inside_sync = declared_sync (desk_inside.the_type κ) (search (sendable, roles.the_sync), (search sendable, (search sendable, (search (sendable, table_sync, places_send), (search (sendable, crosses), (search (sendable, crosses, option.the_sync, shares.the_sync), tt))))))
+  desk_inside_sync = declared_sync (desk_inside.the_type κ) (search (sendable, roles.the_sync), (search sendable, (search sendable, (search (sendable, table_sync, places_send), (search (sendable, crosses), (search (sendable, crosses, option.the_sync, shares.the_sync), (search (sendable, crosses, option.the_sync, waits.the_sync), tt)))))))
 
   pub desk_sync : IsSync (desk.the_row κ)
   desk_sync = search (view_sync, desk_inside_sync)

@@ -1,5 +1,5 @@
 -- From what the parts of a connection do to what it does as a whole.
-use Rattle.std.proofs.Common.{◌≡◌, ℕ, ◌-◌, inr, List, Option, Some, sym, subst}
+use Rattle.std.proofs.Common.{◌≡◌, ℕ, ◌-◌, inr, Bool, List, Option, Some, sym, subst}
 use Rattle.std.specs.Prelude.{IfSome}
 use Rattle.mps_cell.specs.Calls.{Known}
 use Rattle.mps_dev.specs.declared.traits.Sink.{Ghosts as SinkGhosts}
@@ -9,7 +9,7 @@ use Rattle.mps_line.specs.declared.write_replies.Reply.TheVariants.{Answer as An
 use Rattle.mps_line.specs.declared.write_replies.Reply.TheVariants.{Busy, Elsewhere, Unkept}
 use Rattle.mps_lines.specs.Lines.{front}
 use Rattle.mps_room.specs.declared.caller.Caller.{Ghosts}
-use Rattle.mps_hub.specs.Connections.{HasAttended, RepliesToFirst}
+use Rattle.mps_hub.specs.Connections.{HasAttended, RepliesToFirst, WasConversation}
 use Rattle.mps_hub.specs.Private.Connections.{CameOfJoining, IsAnsweredFirst}
 use Rattle.mps_hub.specs.First.{IsFirstLine, IsJoin}
 use Rattle.mps_hub.specs.Places.{HasSuchRole, IsKeptBy, IsPassOf, Offer}
@@ -53,17 +53,17 @@ module _ {C K R W : Type 0} (caller : Ghosts C) (pass : C → Known) (keeper : C
   refused writer' reply Unrecorded replies h = absurd h
 
   -- a first line that got its pass, and what followed
-  pub joined : (session : ℕ) (name : List ℕ) (before after : C) (reader' : R) (writer' : W) (ended : Attended) → CameOfJoining caller source sink (Joined session name) before mid writer after reader' writer' ended → IsJoin kept session name → IsPassOf offer session name (pass before) → IsKeptBy keepers (session - offer.first) (keeper before) → IsLeftOf offer.share (left before)
+  pub joined : (session : ℕ) (name : List ℕ) (before after : C) (reader' : R) (writer' : W) (ended : Attended) → (waits : Bool) → waits ≡ offer.waits → CameOfJoining caller waits source sink (Joined session name) before mid writer after reader' writer' ended → IsJoin kept session name → IsPassOf offer session name (pass before) → IsKeptBy keepers (session - offer.first) (keeper before) → IsLeftOf offer.share (left before)
       → HasAttended caller pass keeper left source sink offer keepers reader writer reader' writer' ended
-  joined session name before after reader' writer' NoLine h joins taken by share = absurd h
-  joined session name before after reader' writer' TurnedAway h joins taken by share = let moved = subst (λ (r : R). IsFirstLine source reader r kept) (sym h.1) first in record {
+  joined session name before after reader' writer' NoLine waits may h joins taken by share = absurd h
+  joined session name before after reader' writer' TurnedAway waits may h joins taken by share = let moved = subst (λ (r : R). IsFirstLine source reader r kept) (sym h.1) first in record {
     kept = kept;
     first = moved;
     reply = Joined session name;
     replies = (joins_whole moved.line kept session name moved.front_kept joins, (taken.is_session, (keeper before, by)), offered offer session name (pass before) taken);
     written = inr h.0;
   }
-  joined session name before after reader' writer' (Conversed ending) h joins taken by share = record {
+  joined session name before after reader' writer' (Conversed ending) waits may h joins taken by share = record {
     kept = kept;
     session = session;
     name = name;
@@ -75,7 +75,7 @@ module _ {C K R W : Type 0} (caller : Ghosts C) (pass : C → Known) (keeper : C
     taken = taken;
     kept_by = by;
     shared = share;
-    conversed = h;
+    conversed = subst (λ (b : Bool). WasConversation caller b source sink (Joined session name) before mid writer after reader' writer' ending) may h;
   }
-  joined session name before after reader' writer' Memory h joins taken by share = h.0
-  joined session name before after reader' writer' Unrecorded h joins taken by share = h.0
+  joined session name before after reader' writer' Memory waits may h joins taken by share = h.0
+  joined session name before after reader' writer' Unrecorded waits may h joins taken by share = h.0

@@ -1,5 +1,5 @@
 -- What a connection comes to.
-use Rattle.std.specs.Prelude.{◌≡◌, ◌≢◌, ℕ, ◌+◌, ◌-◌, ◌⊎◌, ⊤, List, Option, All}
+use Rattle.std.specs.Prelude.{◌≡◌, ◌≢◌, ℕ, ◌+◌, ◌-◌, ◌⊎◌, ⊤, Bool, List, Option, All}
 use Rattle.std.specs.Io.KnownBytes.{Appends}
 use Rattle.mps_cell.specs.Calls.{Known}
 use Rattle.mps_dev.specs.declared.traits.Sink.{Ghosts as SinkGhosts}
@@ -54,14 +54,14 @@ pub record SendingBrokeOff {W : Type 0} (sink : SinkGhosts W) (old new : W) (rep
   pub front : TookFront (sink.taken old) (sink.taken new) (ended text)
   pub failed : sink.failed_calls new ≡ sink.failed_calls old + 1
 
--- what a caller that got its pass came to, once it was told so with this reply
-module _ {C R W : Type 0} (caller : Ghosts C) (source : SourceGhosts R) (sink : SinkGhosts W) (joined : Reply)
+-- what a caller that got its pass came to, once it was told so with this reply, where its lines may wait or may not
+module _ {C R W : Type 0} (caller : Ghosts C) (waits : Bool) (source : SourceGhosts R) (sink : SinkGhosts W) (joined : Reply)
     (before : C) (reader : R) (writer : W) (after : C) (reader' : R) (writer' : W) where
   -- it was told so, and the lines that follow were its conversation
   pub record WasConversation (ending : Ending) : Type 0 where
     pub told : W
     pub sent : WasSent sink writer told joined
-    pub ended : EndedAs (ConversesLine caller) (ConversesBrokenOff caller) before
+    pub ended : EndedAs (ConversesLine caller waits) (ConversesBrokenOff caller waits) before
         (streams source sink reader told) (streams source sink reader' writer') after ending
 
 -- What one connection comes to: a reader and a writer, as they were before it and as they are after it.
@@ -90,7 +90,7 @@ module _ {C K R W : Type 0} (caller : Ghosts C) (pass : C → Known) (keeper : C
       pub taken : IsPassOf offer session name (pass before)
       pub kept_by : IsKeptBy keepers (session - offer.first) (keeper before)
       pub shared : IsLeftOf offer.share (left before)
-      pub conversed : WasConversation caller source sink
+      pub conversed : WasConversation caller offer.waits source sink
           (Joined session name) before joined writer after reader' writer' ending
 
     -- by how it ended

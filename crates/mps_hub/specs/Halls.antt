@@ -8,14 +8,15 @@ use Rattle.mps_cell.specs.Cells.{Opened, Closes, Dealt, IsDealOf, opened_with}
 use Rattle.mps_cell.specs.Openings.{opening_of}
 use Rattle.mps_keeper.specs.declared.restored_room.RestoredRoom.{RestoredRoom}
 
--- the names of the roles, the number of the first session, a cell for each session, whether the passes were given, and
--- how many entries of its session each role may make, if that is limited
+-- the names of the roles, the number of the first session, a cell for each session, whether the passes were given, how
+-- many entries of its session each role may make, if that is limited, and whether answers may wait
 pub record Hall : Type 0 where
   pub names : List (List ℕ)
   pub first : ℕ
   pub cells : List Opened
   pub given : Bool
   pub share : Option ℕ
+  pub waits : Bool
 
 -- there is a room of these names for each session, in order, in which nothing was done yet
 pub record AreRoomsOf (names : List (List ℕ)) (sessions : List SessionState) (rooms : List RestoredRoom) : Type 0 where

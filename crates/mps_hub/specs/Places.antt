@@ -1,15 +1,16 @@
 -- What a desk has, and where.
-use Rattle.std.specs.Prelude.{◌≡◌, ℕ, ◌+◌, ◌-◌, ◌<◌, ◌≤◌, List, Option, Some, None, slice_get, get_or, length}
+use Rattle.std.specs.Prelude.{◌≡◌, ℕ, ◌+◌, ◌-◌, ◌<◌, ◌≤◌, Bool, List, Option, Some, None, slice_get, get_or, length}
 use Rattle.mps_cell.specs.Calls.{Known}
 use Rattle.mps_cell.specs.Cells.{Opened}
 
--- what a desk offers: the names of the roles, the number of the first session, a cell for each session, and how many
--- entries of its session each role may make, if that is limited
+-- what a desk offers: the names of the roles, the number of the first session, a cell for each session, how many entries
+-- of its session each role may make, if that is limited, and whether answers may wait
 pub record Offer : Type 0 where
   pub names : List (List ℕ)
   pub first : ℕ
   pub cells : List Opened
   pub share : Option ℕ
+  pub waits : Bool
 
 -- so many sessions are numbered from the first on
 abbrev pub IsSession : (first sessions session : ℕ) → Type 0

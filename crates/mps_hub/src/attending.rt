@@ -11,9 +11,11 @@ ghost use Rattle.mps_hub.specs.First.{IsJoin};
 ghost use Rattle.mps_hub.specs.Places.{IsKeptBy, IsPassOf, keeper_at};
 ghost use Rattle.mps_hub.specs.Shares.{IsLeftOf};
 
+use crate::bells::Bell;
 use crate::desk::{Desk, JoinFault};
 use crate::first::{asked_for, first_line};
 use crate::sharing::Sharing;
+use crate::waiting::RoleVigil;
 use mps_base::{Name, Role};
 use mps_cell::{Held, Pass};
 use mps_dev::{Discard, Failed, Sink, Source};
@@ -21,9 +23,10 @@ use mps_keeper::{Disk, Gate, Guest, Hold, Keeper, LONGEST_LINE};
 use mps_line::Reply;
 use mps_room::Caller;
 use mps_wire::sending::send_all;
-use mps_wire::{Ending, converse};
+use mps_wire::{Ending, Vigil, converse_waiting};
 use std::alloc::{AllocError, Global};
 use std::fs::File;
+use std::net::TcpStream;
 use std::sync::Wait;
 use std::time::Clock;
 
@@ -130,11 +133,13 @@ fn converse_joined<
     H: Wait + Clock + Eprint + 'static,
     S: Sink + 'static,
     D: Disk + 'static,
+    V: Vigil,
     R: Source,
     W: Sink,
 >(
     alloc: Global,
     caller: &mut PassGuest<'g, 'k, 'r, 'a, G, H, S, D>,
+    vigil: &mut V,
     joined: &Reply,
     reader: &mut R,
     writer: &mut W,
@@ -144,14 +149,18 @@ fn converse_joined<
     ensures cell { caller.new.inner.inner.pass.cell ≡ caller.old.inner.inner.pass.cell }
     ensures opening { caller.new.inner.inner.pass.opening ≡ caller.old.inner.inner.pass.opening }
     ensures conversed { CameOfJoining ⟦<PassGuest<'static, 'static, 'static, 'static, G, H, S, D> as Caller>⟧
-        R.Source W.Sink joined.now caller.old reader.old writer.old caller.new reader.new writer.new result }
+        (V.waits vigil.old) R.Source W.Sink joined.now caller.old reader.old writer.old caller.new reader.new writer.new result }
     ensures told { records_of caller.old.recorder ≡ false → whole_of caller.old.recorder ≡ true → EndsForNoLoss result }
 {
     if !caller.may_tell() {
         return Attended::Unrecorded;
     }
+    let role = caller.inner.inner.pass.role();
+    if caller.recorder.make_space(role).is_err() {
+        return Attended::Memory;
+    }
     match send(alloc, writer, joined) {
-        Ok(()) => Attended::Conversed(converse(alloc, caller, reader, writer)),
+        Ok(()) => Attended::Conversed(converse_waiting(alloc, caller, vigil, reader, writer)),
         Err(Unsent::Write) => Attended::TurnedAway,
         Err(Unsent::Memory) => Attended::Memory,
     }
@@ -217,7 +226,9 @@ impl<
         }
     }
 
-    // The pass that the line asks for and what records its session, or the reply that says why there is none.
+    // The pass that the line asks for and what records its session, or the reply that says why there is none. Not inlined, so
+    // that the conversation's stack needn't keep space for it.
+    #[inline(never)]
     fn admit(&self, kept: &[u8]) -> Result<Admitted<'s, 'd, S, D>, Reply>
         ensures joins { IfOk result (λ a. IsJoin kept.now a.session a.name) }
         ensures pass { IfOk result (λ a. IsPassOf self.now.desk.now a.session a.name a.pass) }
@@ -267,6 +278,14 @@ impl<
         }
     }
 
+    // The bells of the session at that place, where answers may wait.
+    fn bells_of(&self, place: usize) -> Option<&'d [Bell]> {
+        match self.desk.waits() {
+            Some(waits) => Some(waits.bells_of(place)),
+            None => None,
+        }
+    }
+
     // Space for a line that is recorded, so that none is lost for want of memory.
     fn line_space(&self) -> Result<Vec<u8>, AllocError>
         ensures { 0 < length self.now.keepers.now → IfOk result (λ line. LONGEST_LINE ≤ vec_capacity line) }
@@ -297,14 +316,16 @@ impl<
             self.now.desk.now self.now.keepers.now reader.old writer.old reader.new writer.new result }
         ensures told { length self.now.keepers.now ≡ 0 → EndsForNoLoss result }
     {
-        self.attend_with(connection, &NoUsher, reader, writer)
+        self.attend_with(connection, &NoUsher, None, reader, writer)
     }
 
-    /// The same, where the usher is told which session is joined.
+    /// The same, where the usher is told which session is joined, and the client is looked at while an answer waits, by its
+    /// connection.
     pub fn attend_with<U: Usher, R: Source, W: Sink>(
         &self,
         connection: u64,
         usher: &U,
+        stream: Option<&TcpStream>,
         reader: &mut R,
         writer: &mut W,
     ) -> Attended
@@ -339,12 +360,16 @@ impl<
                     rt,
                     turn: self.desk.turn_at(place),
                     left: self.left(place, role),
+                    bells: self.bells_of(place),
                     inner: Held { rt, pass },
                 };
                 let hold = Hold::new(rt, keeper);
                 let mut guest = Guest::new(self.gate, connection, hold, sharing, line);
                 let joined = Reply::Joined { session, name };
-                let ended = converse_joined(self.alloc, &mut guest, &joined, reader, writer);
+                let mut vigil = RoleVigil::new(rt, self.desk.waits(), place, role, stream);
+                let ended = converse_joined(
+                    self.alloc, &mut guest, &mut vigil, &joined, reader, writer,
+                );
                 // before the pass is there for the next connection
                 self.keep_left(place, role, guest.inner.left);
                 self.desk.give(rt, session, guest.inner.inner.pass);

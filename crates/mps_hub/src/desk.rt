@@ -1,12 +1,13 @@
 //! The passes that are not in use, which one thread at a time has.
 ghost use Rattle.std.specs.Prelude.{◌≡◌, ◌≢◌, ◌+◌, ◌<◌, ◌≤◌, ◌^◌, ◌↔◌, Some, None, IfOk, IfSome, IsNone, IsErrOf, All, length};
 ghost use Rattle.std.specs.Prelude.{slice_set};
-ghost use Rattle.std.specs.Option.{option_map};
+ghost use Rattle.std.specs.Option.{is_some, option_map};
 ghost use Rattle.mps_hub.specs.Places.{IsAtPlace, IsOfCell, IsOfSession, HasSuchRole, IsPassOf, IsSession, Offer};
 ghost use Rattle.mps_hub.specs.Private.Places.{AreNumbered, AtHome};
 
 use crate::lock::{Steady, put_back, take_out};
 use crate::shares::Shares;
+use crate::waiting::Waits;
 use atomic_table::{Refused as NotMade, Table};
 use mps_base::{Name, Roles};
 use mps_cell::{Cell, Pass};
@@ -157,11 +158,13 @@ pub struct Desk<'a> {
     turns: Vec<Mutex<()>>,
     // what each role may make, if that is limited
     shares: Option<&'a Shares>,
+    // by what answers wait, if they may
+    waits: Option<&'a Waits>,
 }
 
 impl<'a> Model for Desk<'a> {
     ghost use Rattle.std.specs.Coded.{codes};
-    ghost use Rattle.std.specs.Option.{option_map};
+    ghost use Rattle.std.specs.Option.{is_some, option_map};
     ghost use Rattle.mps_local.specs.Private.Codes.{coded_local};
     ghost use Rattle.mps_hub.specs.Places.{Offer};
     ghost use Rattle.mps_hub.specs.Private.Places.{IsDesk};
@@ -175,6 +178,7 @@ impl<'a> Model for Desk<'a> {
       first = d.first;
       cells = d.table.shared.key.value;
       share = option_map (λ s. s.now.most) d.shares;
+      waits = is_some d.waits;
     } };
 
     ghost invariant = { λ d. IsDesk d.table.shared.table_id d.names.now d.first d.sessions d.table.shared.key.value };
@@ -188,6 +192,7 @@ impl<'a> Desk<'a> {
         first: u64,
         rows: Vec<Row<'a>>,
         shares: Option<&'a Shares>,
+        waits: Option<&'a Waits>,
     ) -> Result<Desk<'a>, AllocError>
         requires numbered { AreNumbered names.now first rows.items }
         requires fits { first + length rows.items < 2 ^ 64 }
@@ -196,6 +201,7 @@ impl<'a> Desk<'a> {
           first = first;
           cells = rows.entry.items;
           share = option_map (λ s. s.now.most) shares.entry;
+          waits = is_some waits.entry;
         }) }
     {
         let sessions = rows.len() as u64;
@@ -212,6 +218,7 @@ impl<'a> Desk<'a> {
                 table,
                 turns,
                 shares,
+                waits,
             }),
             Err(NotMade { slots: _ }) => Err(AllocError),
         }
@@ -227,6 +234,13 @@ impl<'a> Desk<'a> {
         ensures { option_map (λ s. s.now.most) result ≡ self.now.share }
     {
         self.shares
+    }
+
+    // By what answers wait, if they may.
+    pub(crate) fn waits(&self) -> Option<&'a Waits>
+        ensures { is_some result ≡ self.now.waits }
+    {
+        self.waits
     }
 
     // The names of the roles.

@@ -58,16 +58,16 @@ pub trait Door {
 pub(crate) struct Street<'l> {
     listener: &'l TcpListener,
     // The listener's socket as a stream, since a listener has no `shutdown`: with it a call of `accept` that waits comes back.
-    bell: TcpStream,
+    waker: TcpStream,
 }
 
 impl<'l> Street<'l> {
-    // The door of this listener; `None` where the system has no descriptor for its bell.
+    // The door of this listener; `None` where the system has no descriptor for its waker.
     pub(crate) fn new(listener: &'l TcpListener) -> Option<Street<'l>> {
         match listener.try_clone() {
             Ok(other) => Some(Street {
                 listener,
-                bell: TcpStream::from(OwnedFd::from(other)),
+                waker: TcpStream::from(OwnedFd::from(other)),
             }),
             Err(_) => None,
         }
@@ -129,6 +129,6 @@ impl Door for Street<'_> {
     fn left<R: Wait>(&self, _rt: &R) {}
 
     fn shut<R: Wait>(&self, _rt: &R) {
-        let _rung = self.bell.shutdown(Shutdown::Both);
+        let _rung = self.waker.shutdown(Shutdown::Both);
     }
 }

@@ -1,5 +1,6 @@
 //! Sessions that are opened when somebody joins, and let go of when nobody is in them.
 ghost use Rattle.std.specs.Prelude.{◌≡◌, ◌≢◌, ◌≤◌, ◌^◌, false, IfOk, IfErr, length};
+ghost use Rattle.std.specs.Option.{is_some};
 ghost use Rattle.mps_hub.specs.Private.Hosting.{IsHosted};
 ghost use Rattle.mps_line.specs.Codes.{code_of};
 
@@ -7,6 +8,7 @@ use crate::attending::{Serving, refuse};
 use crate::door::{Arrival, accept_next};
 use crate::first::asked_for;
 use crate::limits::Limits;
+use crate::lookout::Lookout;
 use crate::patience::{
     RetryingWriter, TimedReader, bytes_there, first_bytes, linger, linger_until, moment_after,
 };
@@ -14,6 +16,7 @@ use crate::register::{Entered, Left, Queue, Register};
 use crate::server::{ServeFault, serve_door};
 use crate::sessions::Hub;
 use crate::shares::Shares;
+use crate::waiting::Waits;
 use mps_base::Roles;
 use mps_command::{Answer, Refusal};
 use mps_dev::{OverWrite, Sink};
@@ -98,6 +101,8 @@ pub struct Hosting<'f, R, S: Sink, D, H> {
     /// What opens them.
     pub host: &'f H,
     pub limits: Limits,
+    /// By what answers wait, where they may.
+    pub lookout: Option<Arc<Lookout, Global>>,
     /// Of what records a session.
     pub of: PhantomData<Keeper<S, D>>,
 }
@@ -120,7 +125,8 @@ impl<
         first_bytes(self.alloc, &mut timed)
     }
 
-    // The same, while the connection is among those that owe it.
+    // The same, while the connection is among those that owe it. Not inlined, since the thread goes on as that of a session.
+    #[inline(never)]
     fn owed_line(&self, stream: &TcpStream) -> Option<Vec<u8>> {
         let number = self.register.came(self.rt, stream);
         let line = self.line_of(stream);
@@ -260,8 +266,10 @@ impl<
         Ok(())
     }
 
-    // Serves the session that was opened until the queue is over. When this returns nothing of it is held any more.
+    // Serves the session that was opened until the queue is over. When this returns nothing of it is held any more. Not
+    // inlined, so that the thread's stack needn't keep space for this while the session is opened.
     #[tactic(auto, using(crate::proofs::Cells::one_named))]
+    #[inline(never)]
     fn serve_opened(
         &self,
         queue: &Queue<'_>,
@@ -281,19 +289,55 @@ impl<
             None => unreachable!(),
         };
         let shares = Shares::of(self.alloc, self.limits.share, rooms.as_slice())?;
-        let mut hub = Hub::of_restored(self.alloc, &names, queue.number(), rooms)?.sharing(shares);
-        match self.serve(queue, &mut hub, keepers.as_slice()) {
-            Ok(lost) => {
-                self.leave(queue.number(), hub, lost)?;
-                Ok(Hosted::Left)
-            }
+        let hub = Hub::of_restored(self.alloc, &names, queue.number(), rooms)?.sharing(shares);
+        let (waits, first) = self.take_bells()?;
+        let served = self.serve_hub(queue, hub.waiting(waits), keepers.as_slice());
+        self.give_bells(first);
+        match served {
             // what records it is kept, so that no other process opens its file
             Err(ServeFault::NoneLeft) if barred.load(Ordering::SeqCst) => {
                 self.keep_out(queue.number());
                 Ok(Hosted::Barred)
             }
-            Err(ServeFault::NoneLeft) => Ok(Hosted::Left),
+            Ok(()) | Err(ServeFault::NoneLeft) => Ok(Hosted::Left),
             Err(_) => Err(AllocError),
+        }
+    }
+
+    // By what the answers of one session more wait, where they may, and the first of its bells.
+    fn take_bells(&self) -> Result<(Option<Waits>, Option<usize>), AllocError>
+        ensures { IfOk result (λ r. is_some r.0 ≡ is_some self.now.lookout) }
+    {
+        let Some(lookout) = &self.lookout else {
+            return Ok((None, None));
+        };
+        let shared = Arc::try_clone(lookout)?;
+        let first = lookout.take(self.rt);
+        Ok((Some(Waits::new(shared, first)), Some(first)))
+    }
+
+    // The session has these bells no longer.
+    fn give_bells(&self, first: Option<usize>) {
+        if let (Some(lookout), Some(first)) = (&self.lookout, first) {
+            lookout.give(self.rt, first);
+        }
+    }
+
+    // Serves the session of this hub until the queue is over, and then lets go of it.
+    fn serve_hub(
+        &self,
+        queue: &Queue<'_>,
+        mut hub: Hub,
+        keepers: &[Option<Keeper<S, D>>],
+    ) -> Result<(), ServeFault>
+        requires given { hub.given ≡ false }
+        requires recorded { length keepers.now ≤ length hub.cells }
+        requires waits { hub.waits ≡ is_some self.now.lookout }
+    {
+        let lost = self.serve(queue, &mut hub, keepers)?;
+        match self.leave(queue.number(), hub, lost) {
+            Ok(()) => Ok(()),
+            Err(AllocError) => Err(ServeFault::Memory),
         }
     }
 

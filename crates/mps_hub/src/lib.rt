@@ -11,6 +11,7 @@
 #![tactic(auto)]
 
 pub mod attending;
+mod bells;
 pub mod desk;
 pub mod door;
 pub mod first;
@@ -19,18 +20,21 @@ pub mod laws;
 mod limits;
 mod lobby;
 pub(crate) mod lock;
+pub mod lookout;
 mod patience;
 pub mod register;
 pub mod server;
 pub mod sessions;
 pub mod shares;
 pub mod sharing;
+pub mod waiting;
 
 pub use attending::{Attended, NoUsher, PassGuest, Serving, Usher};
 pub use desk::{Desk, JoinFault};
 pub use door::{Arrival, Coming, Door, MAX_OPEN};
 pub use hosting::{Host, Hosting, NotOpened, OpenSession, host_all};
 pub use limits::Limits;
+pub use lookout::Lookout;
 pub use mps_keeper::{Gate, RestoredRoom, Unguarded};
 pub use patience::FIRST_LINE;
 pub use register::{Queue, Register};
@@ -38,3 +42,4 @@ pub use server::{ServeFault, Served, first_lost, serve, serve_door, serve_record
 pub use sessions::{Hub, HubDeal};
 pub use shares::Shares;
 pub use sharing::Sharing;
+pub use waiting::Waits;

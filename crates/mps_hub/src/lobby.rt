@@ -20,18 +20,34 @@ impl Visitor {
     }
 }
 
-// The connections that are open, each at its place, and how many came so far.
+// The connections that are open, each at its place, of which there are so many at most, and how many came so far.
 #[derive(Drop)]
 struct Visitors {
+    // as many as ever were taken at once
     places: Vec<Option<Visitor>>,
+    most: usize,
     came: u64,
     closed: bool,
 }
 
 impl Visitors {
-    // A place that is free.
+    // A place that is free: one that was left, or the next.
     fn free(&self) -> Option<usize> {
-        self.places.iter().position(|place| place.is_none())
+        match self.places.iter().position(|place| place.is_none()) {
+            Some(place) => Some(place),
+            None if self.places.len() < self.most => Some(self.places.len()),
+            None => None,
+        }
+    }
+
+    // Puts the visitor to that place.
+    fn put(&mut self, place: usize, visitor: Visitor) -> Result<(), AllocError> {
+        if place < self.places.len() {
+            self.places[place] = Some(visitor);
+        } else {
+            self.places.push(Some(visitor))?;
+        }
+        Ok(())
     }
 
     // Ends the oldest connection that joined no session, if there is one.
@@ -60,27 +76,19 @@ pub(crate) struct Lobby {
 
 impl Lobby {
     // A lobby with so many places, where the oldest that joined no session may make room for the next one.
-    pub(crate) fn new(
-        alloc: Global,
-        count: usize,
-        yields: bool,
-        limits: Limits,
-    ) -> Result<Lobby, AllocError> {
-        let mut places = Vec::with_capacity(alloc, count)?;
-        for _ in 0..count {
-            places.push_reserved(None);
-        }
+    pub(crate) fn new(alloc: Global, most: usize, yields: bool, limits: Limits) -> Lobby {
         let inside = Visitors {
-            places,
+            places: Vec::new(alloc),
+            most,
             came: 0,
             closed: false,
         };
-        Ok(Lobby {
+        Lobby {
             limits,
             yields,
             inside: Mutex::new(inside),
             left: Condvar::new(),
-        })
+        }
     }
 
     // What is asked of the connections.
@@ -117,13 +125,12 @@ impl Lobby {
         let place = inside.free()?;
         let came = inside.came;
         inside.came = came.saturating_add(1);
-        if place < inside.places.len() {
-            inside.places[place] = Some(Visitor {
-                stream: shared,
-                came,
-                session: None,
-            });
-        }
+        let visitor = Visitor {
+            stream: shared,
+            came,
+            session: None,
+        };
+        inside.put(place, visitor).ok()?;
         Some((place, stream))
     }
 

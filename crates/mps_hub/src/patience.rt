@@ -154,6 +154,8 @@ pub(crate) struct TimedReader<'s, R> {
     // how long what is there already may be read after that: it may have come while the server worked
     least: Duration,
     idle: Option<Duration>,
+    // whether a line has begun whose time begins at the next read: till then those before it are answered
+    begun: bool,
 }
 
 impl<'s, R: Clock> TimedReader<'s, R> {
@@ -177,6 +179,7 @@ impl<'s, R: Clock> TimedReader<'s, R> {
             until,
             least: Duration::ZERO,
             idle,
+            begun: false,
         })
     }
 }
@@ -190,21 +193,30 @@ impl<R: Clock> TimedReader<'_, R> {
         if self.until.is_some() && !piece.contains(&b'\n') {
             return Ok(());
         }
-        let until = match self.idle {
-            Some(idle) if *last != b'\n' => moment_after(self.clock, idle),
-            _ => None,
-        };
-        if self.until.is_some() && until.is_none() {
+        self.begun = *last != b'\n';
+        if self.until.is_some() {
             self.stream.set_read_timeout(self.idle)?;
         }
-        self.until = until;
+        self.until = None;
         self.least = Duration::from_millis(LEAST);
         Ok(())
+    }
+
+    // The time of a line that has begun begins.
+    fn begin(&mut self) {
+        if self.begun {
+            self.until = match self.idle {
+                Some(idle) => moment_after(self.clock, idle),
+                None => None,
+            };
+            self.begun = false;
+        }
     }
 }
 
 impl<R: Clock> Read for TimedReader<'_, R> {
     fn read(&mut self, buf: &mut [u8]) -> io::Result<usize> {
+        self.begin();
         let count = match self.until {
             Some(until) => {
                 read_until(self.clock, self.stream, until, self.least, self.idle, buf)?

@@ -343,7 +343,8 @@ impl Register {
         }
     }
 
-    // Enters the session for the arrival.
+    // Enters the session for the arrival. Not inlined, since the thread goes on as that of the session.
+    #[inline(never)]
     pub(crate) fn enter<R: Wait>(
         &self,
         rt: &R,

@@ -141,7 +141,7 @@ fn connection<
         let mut reader = OverRead::new(LedReader::new(ahead, timed));
         let mut writer = OverWrite::new(RetryingWriter { stream: &stream });
         let usher = LobbyPlace { rt, lobby, place };
-        let _ended = serving.attend_with(number, &usher, &mut reader, &mut writer);
+        let _ended = serving.attend_with(number, &usher, Some(&*stream), &mut reader, &mut writer);
     }
     end_lost(serving, lobby, door);
     linger(rt, &stream, Duration::from_secs(LINGER));
@@ -278,10 +278,7 @@ pub fn serve_door<
     ensures unrecorded { IfErr result
         (IsServeFaultOf limits.strict serving.now.desk.now.first (length serving.now.keepers.now)) }
 {
-    let Ok(lobby) = Lobby::new(serving.alloc, door.places(), door.yields(), limits) else {
-        return Err(ServeFault::Memory);
-    };
-    let lobby = &lobby;
+    let lobby = &Lobby::new(serving.alloc, door.places(), door.yields(), limits);
     let accepted = thread::scope(thread::scope_env(), serving.rt, move |scope| {
         accept_all(scope, serving, lobby, door)
     });

@@ -1,7 +1,7 @@
 //! The sessions of a server.
 ghost use Rattle.std.specs.Prelude.{◌≡◌, ◌≢◌, ◌+◌, ◌≤◌, ◌^◌, ◌↔◌, [], true, false, map, length, vec_capacity, IfOk};
 ghost use Rattle.std.specs.Prelude.{IfErr, IfSome, IsSome, IsErrOf, All, None};
-ghost use Rattle.std.specs.Option.{option_map};
+ghost use Rattle.std.specs.Option.{is_some, option_map};
 ghost use Rattle.mps_local.specs.Local.{plain};
 ghost use Rattle.mps_machine.specs.Machine.{initial};
 ghost use Rattle.mps_cell.specs.Cells.{IsDealOf};
@@ -13,6 +13,7 @@ ghost use Rattle.mps_hub.specs.Places.{IsOfCell};
 
 use crate::desk::{Desk, Row};
 use crate::shares::Shares;
+use crate::waiting::Waits;
 use mps_base::Roles;
 use mps_cell::{Cell, Deal, Pass, PassFault};
 use mps_keeper::RestoredRoom;
@@ -51,11 +52,13 @@ pub struct Hub {
     deals: Option<Vec<Deal>>,
     // what each role may make, if that is limited
     shares: Option<Shares>,
+    // by what answers wait, if they may
+    waits: Option<Waits>,
 }
 
 impl Model for Hub {
     ghost use Rattle.std.specs.Prelude.{◌<◌, ◌+◌, ◌^◌, IfSome, length};
-    ghost use Rattle.std.specs.Option.{is_none, option_map};
+    ghost use Rattle.std.specs.Option.{is_none, is_some, option_map};
     ghost use Rattle.std.specs.Coded.{codes};
     ghost use Rattle.mps_local.specs.Private.Codes.{coded_local};
     ghost use Rattle.mps_hub.specs.Halls.{Hall, AreDeals};
@@ -71,6 +74,7 @@ impl Model for Hub {
       cells = h.cells.items;
       given = is_none h.deals;
       share = option_map (λ s. s.most) h.shares;
+      waits = is_some h.waits;
     } };
 
     ghost invariant = { λ h. AreNumbered h.names h.first h.cells.items × (h.first + length h.cells.items < 2 ^ 64)
@@ -142,6 +146,7 @@ impl Hub {
         ensures first { IfOk result (λ h. h.first ≡ 1) }
         ensures given { IfOk result (λ h. h.given ≡ false) }
         ensures share { IfOk result (λ h. h.share ≡ None) }
+        ensures waits { IfOk result (λ h. h.waits ≡ false) }
         ensures cells { IfOk result (λ h. AreCellsWith names.now (map plain types.now) 1 sessions h.cells) }
         ensures fault { IfErr result (λ fault. fault ≢ OpenFault.Memory → KeepsShut (map plain types.now) fault) }
     {
@@ -158,6 +163,7 @@ impl Hub {
         ensures first { IfOk result (λ h. h.first ≡ 1) }
         ensures given { IfOk result (λ h. h.given ≡ false) }
         ensures share { IfOk result (λ h. h.share ≡ None) }
+        ensures waits { IfOk result (λ h. h.waits ≡ false) }
         ensures cells { IfOk result (λ h. AreCellsOf names.now 1 sessions.items h.cells) }
     {
         Hub::of_numbered(alloc, names, 1, sessions)
@@ -179,6 +185,7 @@ impl Hub {
         ensures first { IfOk result (λ h. h.first ≡ first) }
         ensures given { IfOk result (λ h. h.given ≡ false) }
         ensures share { IfOk result (λ h. h.share ≡ None) }
+        ensures waits { IfOk result (λ h. h.waits ≡ false) }
         ensures cells { IfOk result (λ h. AreCellsOf names.now first sessions.items h.cells) }
     {
         let rooms = rooms_of(alloc, names, sessions)?;
@@ -201,6 +208,7 @@ impl Hub {
         ensures first { IfOk result (λ h. h.first ≡ first) }
         ensures given { IfOk result (λ h. h.given ≡ false) }
         ensures share { IfOk result (λ h. h.share ≡ None) }
+        ensures waits { IfOk result (λ h. h.waits ≡ false) }
         ensures cells { IfOk result (λ h. AreCellsAround first rooms.items h.cells) }
     {
         let mut cells = Vec::with_capacity(alloc, rooms.len())?;
@@ -216,32 +224,35 @@ impl Hub {
             cells,
             deals: Some(deals),
             shares: None,
+            waits: None,
         })
     }
 
     /// The same hub, where each role may make just its share of the entries of its session, if there are shares, which are
     /// those of the hub's sessions, in their order.
-    pub fn sharing(self, shares: Option<Shares>) -> Hub
+    pub fn sharing(mut self, shares: Option<Shares>) -> Hub
         ensures names { result.names ≡ self.names }
         ensures first { result.first ≡ self.first }
         ensures cells { result.cells ≡ self.cells }
         ensures given { result.given ≡ self.given }
         ensures share { result.share ≡ option_map (λ s. s.most) shares }
+        ensures waits { result.waits ≡ self.waits }
     {
-        let Hub {
-            names,
-            first,
-            cells,
-            deals,
-            shares: _,
-        } = self;
-        Hub {
-            names,
-            first,
-            cells,
-            deals,
-            shares,
-        }
+        self.shares = shares;
+        self
+    }
+
+    /// The same hub, where answers may wait, if there is something by which they do.
+    pub fn waiting(mut self, waits: Option<Waits>) -> Hub
+        ensures names { result.names ≡ self.names }
+        ensures first { result.first ≡ self.first }
+        ensures cells { result.cells ≡ self.cells }
+        ensures given { result.given ≡ self.given }
+        ensures share { result.share ≡ self.share }
+        ensures waits { result.waits ≡ is_some waits }
+    {
+        self.waits = waits;
+        self
     }
 
     /// The right to the passes, once in the hub's life. `desk_of` makes the desk for it, and the hub stays known
@@ -251,6 +262,7 @@ impl Hub {
         ensures first { self.new.first ≡ self.old.first }
         ensures cells { self.new.cells ≡ self.old.cells }
         ensures share { self.new.share ≡ self.old.share }
+        ensures waits { self.new.waits ≡ self.old.waits }
         ensures given { self.new.given ≡ true }
         ensures once { IsSome result ↔ (self.old.given ≡ false) }
         ensures deal { IfSome result (AreDeals self.old.cells) }
@@ -282,12 +294,20 @@ impl Hub {
           first = self.now.first;
           cells = self.now.cells;
           share = self.now.share;
+          waits = self.now.waits;
         }) }
     {
         let HubDeal { deals } = deal;
         let names = &self.names;
         let rows = rows_of(alloc, self.cells.as_slice(), names.count(), deals)?;
-        Desk::new(alloc, names, self.first, rows, self.shares.as_ref())
+        Desk::new(
+            alloc,
+            names,
+            self.first,
+            rows,
+            self.shares.as_ref(),
+            self.waits.as_ref(),
+        )
     }
 
     /// Both in one: the desk, once in the hub's life. After an out-of-memory answer later calls are told that it was
@@ -299,6 +319,7 @@ impl Hub {
           first = self.old.first;
           cells = self.old.cells;
           share = self.old.share;
+          waits = self.old.waits;
         }) }
     {
         let Some(deal) = self.deal() else {
@@ -320,6 +341,7 @@ impl Hub {
             cells,
             deals: _,
             shares: _,
+            waits: _,
         } = self;
         let rooms = Vec::with_capacity(alloc, cells.len())?;
         Ok(close_all(cells, rooms))

@@ -8,8 +8,8 @@ use mps_room::Room;
 use std::alloc::{AllocError, Global};
 use std::sync::atomic::{AtomicU64, Ordering};
 
-// How many roles a session has at most.
-const ROLES: usize = 8;
+/// How many roles a session has at most.
+pub(crate) const ROLES: usize = 8;
 
 /// How many entries of its session each role may make, and how many each made so far, of some sessions.
 #[derive(Drop)]

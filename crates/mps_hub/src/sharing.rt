@@ -2,8 +2,9 @@
 ghost use Rattle.std.specs.Prelude.{◌≡◌};
 ghost use Rattle.mps_hub.specs.Shares.{is_over, is_used_up, may_change, one_fewer};
 
+use crate::bells::Bell;
 use mps_base::{Role, Roles};
-use mps_command::{Answer, Command, Refusal};
+use mps_command::{Answer, Command, Forward, Refusal};
 use mps_keeper::Recordable;
 use mps_room::Caller;
 use std::sync::{Mutex, MutexGuard, Wait};
@@ -16,7 +17,7 @@ const BREATH: u64 = 200;
 
 /// A caller that leaves the others of its session their part: it makes no more entries than are left of its share, and
 /// takes turns at showing the state, which takes long where much was done. So whoever gives commands waits for one that
-/// shows it, however many do.
+/// shows it, however many do. Where answers may wait it rings for whom its accepted commands let go on.
 #[derive(Drop)]
 pub struct Sharing<'t, R, C> {
     pub rt: &'t R,
@@ -24,6 +25,8 @@ pub struct Sharing<'t, R, C> {
     pub turn: Option<&'t Mutex<()>>,
     /// How many entries it may still make, if these are counted.
     pub left: Option<u64>,
+    // the bells of the session's roles, where answers may wait
+    pub(crate) bells: Option<&'t [Bell]>,
     pub inner: C,
 }
 
@@ -35,6 +38,23 @@ fn may_change(command: &Command) -> bool
         Command::News(_) | Command::Show => false,
         Command::Undo(id) => id.number() != 0,
         Command::Forward(_) | Command::Rollback(_) | Command::Back(_) => true,
+    }
+}
+
+// To whom the command gives something, if it is accepted.
+fn called_by(command: &Command) -> Option<Role> {
+    match command {
+        Command::Forward(Forward::Send { to, .. } | Forward::Choose { to, .. }) => Some(*to),
+        _ => None,
+    }
+}
+
+// Rings for all but this role, since steps were taken back.
+fn tell_others(bells: &[Bell], own: Role) {
+    for (place, bell) in bells.iter().enumerate() {
+        if place != own.index() {
+            bell.tell();
+        }
     }
 }
 
@@ -53,6 +73,23 @@ impl<'t, R: Wait + Clock, C> Sharing<'t, R, C> {
     {
         if let Some(left) = self.left {
             self.left = Some(left.saturating_sub(1));
+        }
+    }
+
+    // Rings for those that this role's accepted command lets go on: the peer that it gave something, and where steps were taken
+    // back all others. It comes after the call: who wakes sees what it did.
+    fn ring(&self, own: Role, called: Option<Role>, answer: &Answer) {
+        let Some(bells) = self.bells else {
+            return;
+        };
+        if let Answer::Undone(_) = answer {
+            return tell_others(bells, own);
+        }
+        let Some(called) = called else {
+            return;
+        };
+        if let Some(bell) = bells.get(called.index()) {
+            bell.call();
         }
     }
 
@@ -94,6 +131,8 @@ impl<'t, R: Wait + Clock, C: Recordable> Caller for Sharing<'t, R, C> {
         if self.is_over(&command) {
             return Answer::Refused(Refusal::Full);
         }
+        let own = self.inner.own_role();
+        let called = called_by(&command);
         let answer = match command {
             Command::Show => {
                 let _turn = self.wait_for_turn();
@@ -103,6 +142,7 @@ impl<'t, R: Wait + Clock, C: Recordable> Caller for Sharing<'t, R, C> {
         };
         if matches!(answer, Answer::Done(_) | Answer::Undone(_)) {
             self.count();
+            self.ring(own, called, &answer);
         }
         answer
     }
@@ -119,8 +159,13 @@ impl<'t, R: Wait + Clock, C: Recordable> Caller for Sharing<'t, R, C> {
         if self.is_over(&command) {
             return Err(Refusal::Full);
         }
+        let own = self.inner.own_role();
+        let called = called_by(&command);
         self.inner.call_next(number, command)?;
         self.count();
+        if let Some(answer) = self.inner.kept() {
+            self.ring(own, called, answer);
+        }
         Ok(())
     }
 

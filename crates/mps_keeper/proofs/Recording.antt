@@ -1,5 +1,5 @@
 -- What a conversation was answered is recorded.
-use Rattle.std.proofs.Common.{arith, ◌≡◌, ℕ, Bool, true, false, List, [], ◌∷◌, ◌++◌, refl, sym, ap, subst, ◌∙◌, append_assoc, append-nil}
+use Rattle.std.proofs.Common.{arith, ◌≡◌, ℕ, zero, suc, Bool, true, false, List, [], ◌∷◌, ◌++◌, refl, sym, ap, subst, ◌∙◌, append_assoc, append-nil}
 use Rattle.std.specs.Prelude.{Option, if◌then◌else◌}
 use Rattle.mps_command.specs.declared.answer.Answer.{Answer}
 use Rattle.mps_command.specs.declared.answer.Answer.TheVariants as answers
@@ -14,7 +14,7 @@ use Rattle.mps_room.specs.Numbers.{IsNumbered}
 use Rattle.mps_room.specs.declared.numbers.Told.{Told}
 use Rattle.mps_room.specs.declared.numbers.Told.TheVariants.{Fresh, Refused}
 use Rattle.mps_wire.specs.Answers.{AnswersBrokenOff, AnswersLines}
-use Rattle.mps_wire.specs.Conversations.{RepliesTo, Unread, Called, Numbered, Starved, ConversesLine, ConversesBrokenOff}
+use Rattle.mps_wire.specs.Conversations.{RepliesTo, Unread, Called, Numbered, Starved, LooksInVain, RepliesInTime, AtOnce, Later, ConversesLine, ConversesBrokenOff}
 use Rattle.mps_wire.proofs.Calling.{whole_is_broken}
 use Rattle.mps_keeper.specs.Books.{Sealed, TookMore, bytes_of}
 use Rattle.mps_keeper.specs.Recorded.{IsRecorded, IsSettled}
@@ -81,40 +81,50 @@ module _ {R : Type 0} (caller : Ghosts R) (records whole : R → Bool) (taken : 
     replied line c reply d (Numbered s) = came c s.number s.command d s.came s.numbered
     replied line c reply d (Starved s) = stays c d s.unchanged
 
-    pub lines_lead : (lines : List (List ℕ)) (c : R) (out : List ℕ) (d : R) → AnswersLines (ConversesLine caller) lines c out d → Leads c d
-    lines_lead [] c out d a = stays c d a.1
-    lines_lead (l ∷ lines) c out d a = further c a.2 d (replied l c a.4.line_is.reply a.2 a.4.line_is.replies) (lines_lead lines a.2 a.1 d a.5)
+    looked : (line : List ℕ) (n : ℕ) (c d : R) → LooksInVain caller line n c d → Leads c d
+    looked line zero c d l = stays c d l
+    looked line (suc n) c d l = further c l.0 d (looked line n c l.0 l.2) (replied line l.0 l.1 d l.3)
 
-    pub broken_leads : (lines : List (List ℕ)) (c : R) (out : List ℕ) (d : R) → AnswersBrokenOff (ConversesLine caller) (ConversesBrokenOff caller) lines c out d → Leads c d
-    broken_leads [] c out d a = stays c d a.1
-    broken_leads (l ∷ []) c out d a = replied l c a.reply d a.replies
-    broken_leads (l ∷ m ∷ lines) c out d a = further c a.2 d (replied l c a.4.line_is.reply a.2 a.4.line_is.replies) (broken_leads (m ∷ lines) a.2 a.1 d a.5)
+    -- Lines that may wait, or may not.
+    module _ (waits : Bool) where
+      in_time : (line : List ℕ) (c : R) (reply : Reply) (d : R) → RepliesInTime caller waits line c reply d → Leads c d
+      in_time line c reply d (AtOnce none r) = replied line c reply d r
+      in_time line c reply d (Later w) = further c w.mid d (looked w.rest w.looks c w.mid w.in_vain) (replied w.rest w.mid reply d w.replies)
 
-    -- one line more in front of answers, the last of which breaks off
-    longer : (l : List ℕ) (done : List (List ℕ)) (c m e : R) (out others : List ℕ) (text : List ℕ) → out ≡ ended text ++ others → ConversesLine caller l c text m → AnswersBrokenOff (ConversesLine caller) (ConversesBrokenOff caller) done m others e → AnswersBrokenOff (ConversesLine caller) (ConversesBrokenOff caller) (l ∷ done) c out e
-    longer l done c m e out others text is line a = grind (arith, append-nil, whole_is_broken)
+      pub lines_lead : (lines : List (List ℕ)) (c : R) (out : List ℕ) (d : R) → AnswersLines (ConversesLine caller waits) lines c out d → Leads c d
+      lines_lead [] c out d a = stays c d a.1
+      lines_lead (l ∷ lines) c out d a = further c a.2 d (in_time l c a.4.line_is.reply a.2 a.4.line_is.replies) (lines_lead lines a.2 a.1 d a.5)
 
-    at_last : (l : List ℕ) (c : R) (written : List ℕ) (d : R) → records c ≡ true → whole c ≡ true → ((r : R) → caller.may_tell r ≡ whole r) → (b : Bool) → whole d ≡ b → ConversesBrokenOff caller l c written d → WrittenIsRecorded caller taken (l ∷ []) c written d
-    at_last l c written d s w tells true on a = record { asked = l ∷ []; others = []; first = refl; reached = d; answered = a; whole = tells d ∙ on; recorded = (replied l c a.reply d a.replies).goes s on; since = no_more (bytes_of (taken d)) }
-    at_last l c written d s w tells false off a = record { asked = []; others = l ∷ []; first = refl; reached = c; answered = (a.silent (tells d ∙ off), refl); whole = tells c ∙ w; recorded = nothing c; since = (replied l c a.reply d a.replies).more }
+      pub broken_leads : (lines : List (List ℕ)) (c : R) (out : List ℕ) (d : R) → AnswersBrokenOff (ConversesLine caller waits) (ConversesBrokenOff caller waits) lines c out d → Leads c d
+      broken_leads [] c out d a = stays c d a.1
+      broken_leads (l ∷ []) c out d a = in_time l c a.reply d a.replies
+      broken_leads (l ∷ m ∷ lines) c out d a = further c a.2 d (in_time l c a.4.line_is.reply a.2 a.4.line_is.replies) (broken_leads (m ∷ lines) a.2 a.1 d a.5)
 
-    pub written_is_recorded : ((r : R) → caller.may_tell r ≡ whole r) → (lines : List (List ℕ)) (c : R) (written : List ℕ) (d : R) → records c ≡ true → whole c ≡ true → AnswersBrokenOff (ConversesLine caller) (ConversesBrokenOff caller) lines c written d → WrittenIsRecorded caller taken lines c written d
-    written_is_recorded tells [] c written d s w a = record { asked = []; others = []; first = refl; reached = c; answered = (a.0, refl); whole = tells c ∙ w; recorded = nothing c; since = (stays c d a.1).more }
-    written_is_recorded tells (l ∷ []) c written d s w a = at_last l c written d s w tells (whole d) refl a
-    written_is_recorded tells (l ∷ m ∷ lines) c written d s w a =
-        let mid : whole a.2 ≡ true = sym (tells a.2) ∙ a.4.aloud in
-        let first = replied l c a.4.line_is.reply a.2 a.4.line_is.replies in
-        let more = written_is_recorded tells (m ∷ lines) a.2 a.1 d (first.same ∙ s) mid a.5 in
-        record {
-          asked = l ∷ more.asked;
-          others = more.others;
-          first = ap (λ (x : List (List ℕ)). l ∷ x) more.first;
-          reached = more.reached;
-          answered = longer l more.asked c a.2 more.reached written a.1 a.0 a.3 a.4 more.answered;
-          whole = more.whole;
-          recorded = joined c a.2 more.reached first.names (first.goes s mid) more.recorded;
-          since = more.since;
-        }
+      -- one line more in front of answers, the last of which breaks off
+      longer : (l : List ℕ) (done : List (List ℕ)) (c m e : R) (out others : List ℕ) (text : List ℕ) → out ≡ ended text ++ others → ConversesLine caller waits l c text m → AnswersBrokenOff (ConversesLine caller waits) (ConversesBrokenOff caller waits) done m others e → AnswersBrokenOff (ConversesLine caller waits) (ConversesBrokenOff caller waits) (l ∷ done) c out e
+      longer l done c m e out others text is line a = grind (arith, append-nil, whole_is_broken)
+
+      at_last : (l : List ℕ) (c : R) (written : List ℕ) (d : R) → records c ≡ true → whole c ≡ true → ((r : R) → caller.may_tell r ≡ whole r) → (b : Bool) → whole d ≡ b → ConversesBrokenOff caller waits l c written d → WrittenIsRecorded caller waits taken (l ∷ []) c written d
+      at_last l c written d s w tells true on a = record { asked = l ∷ []; others = []; first = refl; reached = d; answered = a; whole = tells d ∙ on; recorded = (in_time l c a.reply d a.replies).goes s on; since = no_more (bytes_of (taken d)) }
+      at_last l c written d s w tells false off a = record { asked = []; others = l ∷ []; first = refl; reached = c; answered = (a.silent (tells d ∙ off), refl); whole = tells c ∙ w; recorded = nothing c; since = (in_time l c a.reply d a.replies).more }
+
+      pub written_is_recorded : ((r : R) → caller.may_tell r ≡ whole r) → (lines : List (List ℕ)) (c : R) (written : List ℕ) (d : R) → records c ≡ true → whole c ≡ true → AnswersBrokenOff (ConversesLine caller waits) (ConversesBrokenOff caller waits) lines c written d → WrittenIsRecorded caller waits taken lines c written d
+      written_is_recorded tells [] c written d s w a = record { asked = []; others = []; first = refl; reached = c; answered = (a.0, refl); whole = tells c ∙ w; recorded = nothing c; since = (stays c d a.1).more }
+      written_is_recorded tells (l ∷ []) c written d s w a = at_last l c written d s w tells (whole d) refl a
+      written_is_recorded tells (l ∷ m ∷ lines) c written d s w a =
+          let mid : whole a.2 ≡ true = sym (tells a.2) ∙ a.4.aloud in
+          let first = in_time l c a.4.line_is.reply a.2 a.4.line_is.replies in
+          let more = written_is_recorded tells (m ∷ lines) a.2 a.1 d (first.same ∙ s) mid a.5 in
+          record {
+            asked = l ∷ more.asked;
+            others = more.others;
+            first = ap (λ (x : List (List ℕ)). l ∷ x) more.first;
+            reached = more.reached;
+            answered = longer l more.asked c a.2 more.reached written a.1 a.0 a.3 a.4 more.answered;
+            whole = more.whole;
+            recorded = joined c a.2 more.reached first.names (first.goes s mid) more.recorded;
+            since = more.since;
+          }
 
 -- One call that is recorded.
 module _ {K C : Type 0} (recorder : RecorderGhosts K) (caller : Ghosts C) where

@@ -1,5 +1,5 @@
 -- What a keeper is known to have recorded.
-use Rattle.std.specs.Prelude.{◌≡◌, ℕ, true, ⊤, List, [], ◌∷◌, ◌++◌, Option}
+use Rattle.std.specs.Prelude.{◌≡◌, ℕ, Bool, true, ⊤, List, [], ◌∷◌, ◌++◌, Option}
 use Rattle.mps_room.specs.declared.caller.Caller.{Ghosts}
 use Rattle.mps_wire.specs.Answers.{AnswersBrokenOff}
 use Rattle.mps_wire.specs.Conversations.{ConversesLine, ConversesBrokenOff}
@@ -27,17 +27,18 @@ pub record RecordedOn (names : List (List ℕ)) (taken taken' : Option Sealed) (
   pub spelled : SpellEntries names lines numbers entries
   pub took : TookSealed taken lines taken'
 
--- What was written of a conversation's answers is recorded: it is the answers to the first of its lines (the last may
+-- What was written of a conversation's answers, whose lines may wait or may not, is recorded: it is the answers to the first of its lines (the last may
 -- break off), after which nothing was lost; what the keeper took until then are the lines of the entries that were
 -- made until then; and it still has them after the conversation.
-module _ {R : Type 0} (caller : Ghosts R) (taken : R → Option Sealed) (lines : List (List ℕ)) (before : R)
+module _ {R : Type 0} (caller : Ghosts R) (waits : Bool) (taken : R → Option Sealed) (lines : List (List ℕ)) (before : R)
     (written : List ℕ) (after : R) where
   pub record WrittenIsRecorded : Type 0 where
     pub asked : List (List ℕ)
     pub others : List (List ℕ)
     pub first : lines ≡ asked ++ others
     pub reached : R
-    pub answered : AnswersBrokenOff (ConversesLine caller) (ConversesBrokenOff caller) asked before written reached
+    pub answered : AnswersBrokenOff (ConversesLine caller waits) (ConversesBrokenOff caller waits) asked before written
+        reached
     pub whole : caller.may_tell reached ≡ true
     pub recorded : RecordedOn (caller.names before) (taken before) (taken reached) (caller.last before)
         (caller.last reached) (caller.made before) (caller.made reached)

@@ -31,7 +31,8 @@ impl<'g, G: Gate, K: Recorder, C: Recordable> Guest<'g, G, K, C> {
     /// A caller behind the gate, of the connection with that number, whose commands the recorder records. It waits until
     /// what the caller has seen is recorded, since a line that comes again is answered without a call.
     ///
-    /// A line is made in `line`. With space for `LONGEST_LINE` bytes none is lost for want of memory.
+    /// A line is made in `line`. With space for `LONGEST_LINE` bytes, and where the recorder has space for a line of the role
+    /// (`Hold::make_space`), none is lost for want of memory.
     #[tactic(auto, using(crate::proofs::Sealed::sealed_none))]
     pub fn new(
         gate: &'g G,
@@ -141,7 +142,9 @@ impl<'g, G: Gate, K: Recorder, C: Recordable> Caller for Guest<'g, G, K, C> {
         self.inner.roles()
     }
 
+    // Not inlined, so that commands with a number keep no space for this.
     #[tactic(auto, using(crate::proofs::Sealed::sealed_none))]
+    #[inline(never)]
     fn call(&mut self, command: Command) -> Answer {
         self.stop();
         if !self.recorder.records() {

@@ -7,7 +7,7 @@ ghost use Rattle.mps_keeper.specs.Books.{TookSealed};
 use crate::book::{Book, NotRecorded};
 use crate::recorder::Recorder;
 use crate::sealing::end_lines;
-use mps_base::MAX_ROLES;
+use mps_base::Role;
 use mps_dev::Sink;
 use mps_lines::MAX_LINE;
 use mps_seal::SEAL_BYTES;
@@ -85,6 +85,8 @@ struct Writing<W: Sink> {
     text: Vec<u8>,
     line: Vec<u8>,
     sealed: Vec<u8>,
+    // the roles of which a line has space, here and among those that wait
+    roles: Vec<Role>,
 }
 
 impl<W: Sink> Writing<W> {
@@ -131,26 +133,22 @@ pub struct Keeper<W: Sink, D> {
     lost: AtomicBool,
 }
 
-// Space for a line of each connection that a session can have.
-fn lines_space(alloc: Global) -> Result<Vec<u8>, AllocError> {
-    Vec::with_capacity(alloc, MAX_ROLES * LONGEST_LINE)
-}
-
 impl<W: Sink + Drop, D: Drop> Keeper<W, D> {
     /// A keeper over this book. Where a disk is given, a line is recorded once it says so, and it is told when one is
     /// lost.
     pub fn new(alloc: Global, book: Book<W>, disk: Option<D>) -> Result<Keeper<W, D>, AllocError> {
         let lines = book.lines();
         let waiting = Waiting {
-            text: lines_space(alloc)?,
+            text: Vec::new(alloc),
             lines,
             whole: true,
         };
         let writing = Writing {
             book,
-            text: lines_space(alloc)?,
+            text: Vec::new(alloc),
             line: Vec::with_capacity(alloc, LONGEST_LINE)?,
-            sealed: lines_space(alloc)?,
+            sealed: Vec::new(alloc),
+            roles: Vec::new(alloc),
         };
         Ok(Keeper {
             waiting: Mutex::new(waiting),
@@ -167,6 +165,23 @@ impl<W: Sink, D> Keeper<W, D> {
     /// Whether a line was lost.
     pub fn is_broken(&self) -> bool {
         self.lost.load(Ordering::SeqCst)
+    }
+
+    // Makes space for a line of the role, unless there is: it has one line here at a time. While nobody writes, since what is
+    // written changes places with what waits.
+    fn make_space<R: Wait>(&self, rt: &R, role: Role) -> Result<(), AllocError> {
+        let mut writing = self.writing.lock(rt);
+        if writing.roles.contains(&role) {
+            return Ok(());
+        }
+        let space = LONGEST_LINE.saturating_mul(writing.roles.len() + 1);
+        let mut waiting = self.waiting.lock(rt);
+        waiting.text.reserve(space)?;
+        drop(waiting);
+        writing.text.reserve(space)?;
+        writing.sealed.reserve(space)?;
+        writing.roles.push(role)?;
+        Ok(())
     }
 
     // Whether so many lines are recorded, and none is lost.
@@ -283,6 +298,16 @@ impl<'k, R, W: Sink, D> Hold<'k, R, W, D> {
             rt,
             keeper,
             whole: true,
+        }
+    }
+}
+
+impl<'k, R: Wait, W: Sink, D> Hold<'k, R, W, D> {
+    /// Makes space for a line of the role where lines are recorded, so that none is lost for want of memory.
+    pub fn make_space(&self, role: Role) -> Result<(), AllocError> {
+        match self.keeper {
+            Some(keeper) => keeper.make_space(self.rt, role),
+            None => Ok(()),
         }
     }
 }

@@ -1,5 +1,5 @@
 //! Laws of a recorded journal.
-ghost use Rattle.std.specs.Prelude.{◌≡◌, ◌≢◌, ℕ, List, [], ◌∷◌, ◌++◌, ◌⊎◌, Option, true, ◌*◌, ◌≤◌};
+ghost use Rattle.std.specs.Prelude.{◌≡◌, ◌≢◌, ℕ, List, [], ◌∷◌, ◌++◌, ◌⊎◌, Bool, Option, true, ◌*◌, ◌≤◌};
 ghost use Rattle.mps_command.specs.declared.command.Command.{Command};
 ghost use Rattle.mps_command.specs.declared.answer.Answer.{Answer};
 ghost use Rattle.mps_command.specs.declared.answer.Answer.TheVariants.{Refused};
@@ -44,26 +44,26 @@ pub fn a_legal_journal_runs_again()
         → IsLegal names types (before ++ e ∷ after) → grown before e.role e.command e.answer ≡ before ++ e ∷ [] }
 {}
 
-/// Where nothing was lost, what the keeper took while a conversation was answered are the lines of the commands that
+/// Where nothing was lost, what the keeper took while a conversation was answered, whose lines may wait or may not, are the lines of the commands that
 /// it made, in order and with their numbers. So it is where the last answer breaks off. And whatever was lost:
 /// what was written to a conversation are the answers to the first of its lines, up to where nothing was lost.
 pub fn what_is_answered_is_recorded<G: Gate + 'static, K: Recorder, C: Recordable>()
-    ensures whole { (asked : List (List ℕ)) (before : GuestOf G K C) (out : List ℕ) (after : GuestOf G K C)
-        → AnswersLines (ConversesLine ⟦<Guest<'static, G, K, C> as Caller>⟧) asked before out after
+    ensures whole { (waits : Bool) (asked : List (List ℕ)) (before : GuestOf G K C) (out : List ℕ) (after : GuestOf G K C)
+        → AnswersLines (ConversesLine ⟦<Guest<'static, G, K, C> as Caller>⟧ waits) asked before out after
         → K.records before.recorder ≡ true → K.whole after.recorder ≡ true
         → RecordedOn (C.names before.inner) (K.taken before.recorder) (K.taken after.recorder)
         (C.last before.inner) (C.last after.inner) (C.made before.inner) (C.made after.inner) }
-    ensures broken_off { (asked : List (List ℕ)) (before : GuestOf G K C) (out : List ℕ) (after : GuestOf G K C)
-        → AnswersBrokenOff (ConversesLine ⟦<Guest<'static, G, K, C> as Caller>⟧)
-        (ConversesBrokenOff ⟦<Guest<'static, G, K, C> as Caller>⟧) asked before out after
+    ensures broken_off { (waits : Bool) (asked : List (List ℕ)) (before : GuestOf G K C) (out : List ℕ) (after : GuestOf G K C)
+        → AnswersBrokenOff (ConversesLine ⟦<Guest<'static, G, K, C> as Caller>⟧ waits)
+        (ConversesBrokenOff ⟦<Guest<'static, G, K, C> as Caller>⟧ waits) asked before out after
         → K.records before.recorder ≡ true → K.whole after.recorder ≡ true
         → RecordedOn (C.names before.inner) (K.taken before.recorder) (K.taken after.recorder)
         (C.last before.inner) (C.last after.inner) (C.made before.inner) (C.made after.inner) }
-    ensures told { (asked : List (List ℕ)) (before : GuestOf G K C) (written : List ℕ) (after : GuestOf G K C)
-        → AnswersBrokenOff (ConversesLine ⟦<Guest<'static, G, K, C> as Caller>⟧)
-        (ConversesBrokenOff ⟦<Guest<'static, G, K, C> as Caller>⟧) asked before written after
+    ensures told { (waits : Bool) (asked : List (List ℕ)) (before : GuestOf G K C) (written : List ℕ) (after : GuestOf G K C)
+        → AnswersBrokenOff (ConversesLine ⟦<Guest<'static, G, K, C> as Caller>⟧ waits)
+        (ConversesBrokenOff ⟦<Guest<'static, G, K, C> as Caller>⟧ waits) asked before written after
         → K.records before.recorder ≡ true → K.whole before.recorder ≡ true
-        → WrittenIsRecorded ⟦<Guest<'static, G, K, C> as Caller>⟧ (λ r. K.taken r.recorder) asked before written after }
+        → WrittenIsRecorded ⟦<Guest<'static, G, K, C> as Caller>⟧ waits (λ r. K.taken r.recorder) asked before written after }
 {}
 
 /// What was recorded of a legal journal, restored in a session in which nothing was done yet, is that journal: each entry

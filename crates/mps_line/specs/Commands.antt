@@ -1,13 +1,14 @@
 -- How commands are spelled.
-use Rattle.std.specs.Prelude.{ℕ, ◌<◌, List, [], ◌∷◌, length, codes, Option, Some, None, IsSome, OnSome}
+use Rattle.std.specs.Prelude.{◌≡◌, ℕ, ◌<◌, List, [], ◌∷◌, length, codes, Option, Some, None, IsSome, OnSome}
 use Rattle.std.specs.Option.{ForSome}
+use Rattle.mps_base.specs.Spaced.{spaced}
 use Rattle.mps_command.specs.Changes.{change_of}
 use Rattle.mps_command.specs.declared.command.Command.{Command}
 use Rattle.mps_command.specs.declared.command.Command.TheVariants.{Forward, Undo, Rollback, Back, News, Show}
 use Rattle.mps_command.specs.declared.command.Forward.TheVariants.{Send, Choose, Receive, Pick, Mark, Commit}
 use Rattle.mps_line.specs.declared.read_commands.Verb.{Verb}
 use Rattle.mps_line.specs.declared.read_commands.Verb.TheVariants as verbs
-use Rattle.mps_line.specs.Tokens.{Token, Word, RoleAt, Called, Number, Worth, SpellsLine}
+use Rattle.mps_line.specs.Tokens.{Token, Word, RoleAt, Called, Number, Worth, SpellsLine, SpellsNumber}
 
 -- the first word of a command
 abbrev pub verb_word : Verb → List ℕ
@@ -78,6 +79,12 @@ pub record SpellsNumbered (names : List (List ℕ)) (bytes : List ℕ) (number :
     : Type 0 where
   pub line : SpellsLine names bytes (numbered_tokens number command)
   pub allowed : OnSome number (MayHaveNumber command)
+
+-- `wait`, a number of milliseconds, and the line whose answer may wait so long
+pub record SpellsWait (bytes : List ℕ) (limit : ℕ) (line : List ℕ) : Type 0 where
+  pub digits : List ℕ
+  pub parts : bytes ≡ spaced (codes "wait" ∷ digits ∷ line ∷ [])
+  pub spelled : SpellsNumber digits limit
 
 -- the role that a command names, where it names one
 abbrev pub role_named : Command → Option ℕ

@@ -24,7 +24,7 @@ pub mod write_replies;
 pub use answer_texts::answer_has_text;
 pub use journal_lines::{JournalLine, has_journal_line, read_journal_line, write_journal_line};
 pub use read_commands::{LineFault, read_command, read_script_line};
-pub use read_conversations::{asks_for_change, read_numbered};
+pub use read_conversations::{asks_for_change, read_numbered, split_wait};
 pub use read_replies::{read_answer, read_join};
 pub use write_commands::{append_command, write_command};
 pub use write_replies::{

@@ -1,12 +1,12 @@
 //! The lines of a conversation.
-ghost use Rattle.std.specs.Prelude.{ℕ, List, Option, IfOk, IsErrOf, IsTrue, ◌↔◌};
+ghost use Rattle.std.specs.Prelude.{ℕ, List, Option, IfNone, IfOk, IfSome, IsErrOf, IsTrue, ◌↔◌};
 ghost use Rattle.mps_base.specs.declared.value.Value.TheVariants as values;
 ghost use Rattle.mps_command.specs.declared.command.Command.{Command};
 ghost use Rattle.mps_command.specs.declared.command.Command.TheVariants as commands;
 ghost use Rattle.mps_command.specs.declared.command.Forward.TheVariants as steps;
-ghost use Rattle.mps_line.specs.Commands.{MayHaveNumber, SpellsNumbered};
+ghost use Rattle.mps_line.specs.Commands.{MayHaveNumber, SpellsNumbered, SpellsWait};
 
-use crate::line_parts::split_number;
+use crate::line_parts::{after_word, split_number};
 use crate::read_commands::{LineFault, read_command};
 use mps_base::Roles;
 use mps_command::Command;
@@ -36,6 +36,15 @@ pub fn read_numbered(
         return Err(LineFault::Bad);
     }
     Ok((Some(number), command))
+}
+
+/// What stands in a line that begins with `wait`: for how many milliseconds its answer may wait, and the line that is
+/// answered, which is not read here. `None` for any other line.
+pub fn split_wait(bytes: &[u8]) -> Option<(u64, &[u8])>
+    ensures read { IfSome result (λ r. SpellsWait bytes.now r.0 r.1.now) }
+    ensures none { IfNone result ((limit : ℕ) (line : List ℕ) → SpellsWait bytes.now limit line → ⊥) }
+{
+    split_number(after_word(bytes, b"wait")?)
 }
 
 /// Whether the command asks for a change, and not a question: only such a command may have a number, and joins the

@@ -110,6 +110,7 @@ pub fn obey<
             first,
             connections,
             idle,
+            wait,
             share,
             journal,
             verbose,
@@ -125,6 +126,7 @@ pub fn obey<
                 first,
                 sessions,
                 limits,
+                wait: wait.map(|seconds| Duration::from_secs(seconds)),
                 journal,
             };
             serve_file(rt, file, service, verbose)?;
@@ -136,6 +138,7 @@ pub fn obey<
             open,
             keep,
             idle,
+            wait,
             share,
             journal,
             verbose,
@@ -144,6 +147,7 @@ pub fn obey<
                 port,
                 open,
                 keep: Duration::from_secs(keep),
+                wait: wait.map(|seconds| Duration::from_secs(seconds)),
                 limits: Limits {
                     connections: None,
                     idle: idle.map(|seconds| Duration::from_secs(seconds)),

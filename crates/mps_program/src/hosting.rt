@@ -12,8 +12,8 @@ use crate::journal_file::{FileKeeper, JournalDisk, JournalFile, Unsynced};
 use crate::journals::Folder;
 use crate::load::load_file;
 use crate::own_files::OwnFiles;
-use crate::rooms::room_of;
-use crate::serving::{listen, tell_fault, tell_lost, tell_port};
+use crate::rooms::rooms_of;
+use crate::serving::{listen, lookout_of, tell_fault, tell_lost, tell_port};
 use mps_base::Roles;
 use mps_command::{Answer, Refusal};
 use mps_dev::OverWrite;
@@ -41,6 +41,8 @@ pub struct HostService<'a> {
     pub open: u64,
     pub keep: Duration,
     pub limits: Limits,
+    /// How long an answer may wait where its line says so. `None`: no line may say so.
+    pub wait: Option<Duration>,
     pub journal: Option<JournalFolder<'a>>,
 }
 
@@ -80,14 +82,17 @@ impl<'o, 'a, F: OwnFiles + AllocGlobal + Eprint + Wait> House<'o, 'a, F> {
         records: &Records<'a>,
         session: u64,
         unsynced: Unsynced,
-    ) -> Result<(RestoredRoom, FileKeeper), ToolFault<'a>>
+    ) -> Result<(Vec<RestoredRoom>, Vec<Option<FileKeeper>>), ToolFault<'a>>
+        ensures one { IfOk result (λ r. length r.0.items ≡ 1) }
+        ensures kept { IfOk result (λ r. length r.1.items ≡ 1) }
         ensures fault { IfErr result (IsOneFault session) }
     {
         let folder = self.folder(records.journal);
         let mut begun = records.begun.lock(self.rt);
         let note = folder.note(&mut begun, session, &unsynced)?;
         drop(begun);
-        folder.open_one(self.rt, session, note, unsynced)
+        let file = folder.open(self.rt, session)?;
+        folder.open_one(self.rt, session, file, note, unsynced)
     }
 
     // The session, as its file leaves it, or a new one where nothing is recorded. In `barred` it is noted where a sync failed.
@@ -100,17 +105,13 @@ impl<'o, 'a, F: OwnFiles + AllocGlobal + Eprint + Wait> House<'o, 'a, F> {
         ensures few { IfOk result (λ opened. length opened.keepers.items ≤ 1) }
         ensures fault { IfErr result (IsOneFault session) }
     {
-        let alloc = self.rt.alloc();
-        let mut rooms = Vec::with_capacity(alloc, 1)?;
-        let mut keepers = Vec::with_capacity(alloc, 1)?;
-        match &self.records {
-            Some(records) => {
-                let (room, keeper) = self.recorded(records, session, Arc::try_clone(&barred)?)?;
-                rooms.push_reserved(room);
-                keepers.push_reserved(Some(keeper));
+        let (rooms, keepers) = match &self.records {
+            Some(records) => self.recorded(records, session, Arc::try_clone(&barred)?)?,
+            None => {
+                let alloc = self.rt.alloc();
+                (rooms_of(alloc, self.opening, 1)?, Vec::new(alloc))
             }
-            None => rooms.push_reserved(room_of(alloc, self.opening)?),
-        }
+        };
         Ok(OpenSession {
             rooms,
             keepers,
@@ -167,7 +168,9 @@ impl<'o, 'a, F: OwnFiles + AllocGlobal + Eprint + Wait> Host<OverWrite<JournalFi
         &self.opening.roles
     }
 
-    // That another process has a session is no fault to be told.
+    // That another process has a session is no fault to be told. Not inlined, so that the thread that serves the session
+    // needn't keep space for this.
+    #[inline(never)]
     fn open(
         &self,
         session: u64,
@@ -264,6 +267,7 @@ where
     };
     let keep = service.journal.map(|_| service.keep);
     let register = Register::new(alloc, service.open, keep);
+    let lookout = lookout_of(rt, alloc, service.open, service.wait)?;
     let (listener, found) = listen(rt, service.port)?;
     tell_port(alloc, &mut OverWrite::new(io::writer(rt)), found)?;
     let hosting = Hosting {
@@ -272,6 +276,7 @@ where
         register: &register,
         host: &house,
         limits: service.limits,
+        lookout,
         of: PhantomData,
     };
     host_all(&hosting, &listener);

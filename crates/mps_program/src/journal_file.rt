@@ -122,6 +122,15 @@ pub(crate) fn parted(
 }
 
 impl JournalFile {
+    // Writes the note that is due. Not inlined, so that later writes keep no space for it.
+    #[inline(never)]
+    fn write_note(&mut self) -> io::Result<()> {
+        match self.note.take() {
+            Some(mut note) => note.write(),
+            None => Ok(()),
+        }
+    }
+
     // Writes once, and again where a signal interrupts it. Apart, so that all of its failures, the look at the names
     // among them, are noted at one place.
     fn write_on(&mut self, buf: &[u8]) -> io::Result<usize>
@@ -130,8 +139,8 @@ impl JournalFile {
         if self.file.metadata()?.nlink() == 0 {
             return Err(io::Error::from_raw_os_error(NO_SUCH_FILE));
         }
-        if let Some(mut note) = self.note.take() {
-            note.write()?;
+        if self.note.is_some() {
+            self.write_note()?;
         }
         for _ in 0..INTERRUPTS {
             match self.file.write(buf) {

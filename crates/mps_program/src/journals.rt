@@ -1,8 +1,8 @@
 //! The files that record a server's sessions.
-ghost use Rattle.std.specs.Prelude.{◌≡◌, ◌+◌, ◌<◌, ◌≤◌, ◌^◌, ℕ, Ok, IfErr, IfOk, IfSome, All, length, map};
+ghost use Rattle.std.specs.Prelude.{◌≡◌, ◌+◌, ◌<◌, ◌≤◌, ◌^◌, ℕ, Ok, IfErr, IfOk, IfSome, OnOk, All, length, map};
 ghost use Rattle.mps_hub.specs.Places.{IsSession};
 ghost use Rattle.mps_local.specs.Local.{plain};
-ghost use Rattle.mps_program.specs.Rooms.{IsRestoredRoom};
+ghost use Rattle.mps_program.specs.Rooms.{IsNewRoom, IsRestoredRoom};
 ghost use Rattle.mps_program.specs.Journals.{IsFolderFault, IsFileFaultOf, IsJournalFault, IsOneFault};
 ghost use Rattle.mps_program.specs.Journals.{of_restoring};
 ghost use Rattle.mps_program.specs.declared.faults.ToolFault.TheVariants.{Memory as OutOfMemory};
@@ -13,7 +13,7 @@ use crate::folder::{
 };
 use crate::journal_file::{About, FileKeeper, Note, Unsynced, parted};
 use crate::own_files::OwnFiles;
-use crate::rooms::room_of;
+use crate::rooms::{room_of, rooms_of};
 use mps_dev::{OverRead, OverWrite};
 use mps_hub::RestoredRoom;
 use mps_keeper::{Book, Chain, Keeper, RestoreFault, Restored};
@@ -167,6 +167,10 @@ fn marked(alloc: Global, file: &File, about: About, lines: u64, chain: Chain) ->
     })
 }
 
+// Drops the rooms. Not inlined, so that a room has space on the stack meanwhile alone.
+#[inline(never)]
+fn discard(_rooms: Vec<RestoredRoom>) {}
+
 // A session's file, what was restored from it, and what has to be noted before its first entry, if something has.
 #[derive(Drop)]
 struct RestoredFile {
@@ -258,8 +262,10 @@ impl<'o, 'a> Folder<'o, 'a> {
         }
     }
 
-    // Opens the journal of the session, and locks it.
-    fn open<R: OwnFiles>(&self, rt: &R, session: u64) -> Result<File, ToolFault<'a>>
+    /// Opens the journal of the session, and locks it. Not inlined, so that a thread's stack needn't keep space for this and
+    /// for what is done with the file at once.
+    #[inline(never)]
+    pub(crate) fn open<R: OwnFiles>(&self, rt: &R, session: u64) -> Result<File, ToolFault<'a>>
         ensures { IfErr result (IsOneFault session) }
     {
         let folder = self.journal.folder;
@@ -273,43 +279,47 @@ impl<'o, 'a> Folder<'o, 'a> {
         }
     }
 
-    // The room of the session as its file leaves it, and how far the file was read.
-    fn restore(&self, session: u64, file: &File) -> Result<(RestoredRoom, Restored), ToolFault<'a>>
-        ensures room { IfOk result
-            (λ r. IsRestoredRoom self.now.opening.now.roles (map plain self.now.opening.now.types.items) r.0) }
+    // Brings a new room to where the session's file leaves it, and says how far the file was read. In its place, since each
+    // move of a room would take space of the thread's stack.
+    fn restore(
+        &self,
+        session: u64,
+        file: &File,
+        room: &mut RestoredRoom,
+    ) -> Result<Restored, ToolFault<'a>>
+        ensures room { IsNewRoom self.now.opening.now.roles (map plain self.now.opening.now.types.items) room.old
+            → OnOk result (IsRestoredRoom self.now.opening.now.roles (map plain self.now.opening.now.types.items) room.new) }
         ensures fault { IfErr result (IsOneFault session) }
     {
-        let mut room = room_of(self.alloc, self.opening)?;
         let first = Seal::first(self.alloc, self.protocol, session)?;
         match room.restore_from(self.alloc, first, &mut OverRead::new(file)) {
-            Ok(restored) => Ok((room, restored)),
+            Ok(restored) => Ok(restored),
             Err(fault) => Err(unrestored(session, fault)),
         }
     }
 
     // The same, with the file. A session without a note has begun, and so its file ever had the mark: without a line it was
     // lost, and without the mark another was put in its place.
-    fn restore_one<R: OwnFiles>(
+    fn restore_one(
         &self,
-        rt: &R,
         session: u64,
+        file: File,
         note: Option<Note>,
         unsynced: Unsynced,
-    ) -> Result<(RestoredRoom, RestoredFile), ToolFault<'a>>
-        ensures room { IfOk result
-            (λ r. IsRestoredRoom self.now.opening.now.roles (map plain self.now.opening.now.types.items) r.0) }
+        room: &mut RestoredRoom,
+    ) -> Result<RestoredFile, ToolFault<'a>>
+        ensures room { IsNewRoom self.now.opening.now.roles (map plain self.now.opening.now.types.items) room.old
+            → OnOk result (IsRestoredRoom self.now.opening.now.roles (map plain self.now.opening.now.types.items) room.new) }
         ensures fault { IfErr result (IsOneFault session) }
     {
-        let file = self.open(rt, session)?;
-        let (room, restored) = self.restore(session, &file)?;
+        let restored = self.restore(session, &file, room)?;
         if restored.chain.is_sealed || note.is_some() {
-            let read = RestoredFile {
+            return Ok(RestoredFile {
                 file,
                 restored,
                 note,
                 unsynced,
-            };
-            return Ok((room, read));
+            });
         }
         if restored.bytes == 0 {
             return Err(lost(session, io::Error::from(ErrorKind::UnexpectedEof)));
@@ -345,7 +355,10 @@ impl<'o, 'a> Folder<'o, 'a> {
     {
         let unsynced = Arc::new(self.alloc, AtomicBool::new(false))?;
         let note = self.note(begun, session, &unsynced)?;
-        self.restore_one(rt, session, note, unsynced)
+        let file = self.open(rt, session)?;
+        let mut room = room_of(self.alloc, self.opening)?;
+        let read = self.restore_one(session, file, note, unsynced, &mut room)?;
+        Ok((room, read))
     }
 
     // The session's room and file; of a session that was refused a new room.
@@ -396,19 +409,18 @@ impl<'o, 'a> Folder<'o, 'a> {
         Ok((rooms, read))
     }
 
-    // Cuts the file to its whole lines. What is cut off is added to a file beside it, `K.cut`; where more is to be told, on
-    // standard error it is told how many bytes these are.
+    // Cuts so many bytes off the file, past its whole lines. They are added to a file beside it, `K.cut`; where more is to be
+    // told, on standard error it is told how many these are. Not inlined, so that the thread's stack keeps space for it only
+    // where there are any.
+    #[inline(never)]
     fn cut<R: OwnFiles + Eprint>(
         &self,
         rt: &R,
         session: u64,
         file: &File,
         whole: u64,
+        count: u64,
     ) -> io::Result<()> {
-        let count = file.metadata()?.len().saturating_sub(whole);
-        if count == 0 {
-            return Ok(());
-        }
         let mut rest = vec![in self.alloc; 0u8; count as usize]?;
         file.read_exact_at(rest.as_mut_slice(), whole)?;
         let folder = self.journal.folder;
@@ -437,7 +449,11 @@ impl<'o, 'a> Folder<'o, 'a> {
             note,
             unsynced,
         } = read;
-        self.cut(rt, session, &file, restored.bytes as u64)?;
+        let whole = restored.bytes as u64;
+        let torn = file.metadata()?.len().saturating_sub(whole);
+        if torn > 0 {
+            self.cut(rt, session, &file, whole, torn)?;
+        }
         let about = About {
             session,
             sync: self.journal.sync,
@@ -507,23 +523,53 @@ impl<'o, 'a> Folder<'o, 'a> {
         Ok(begun)
     }
 
-    /// The room of one session, as its file leaves it, and what records it. The file is made where there is none, and
-    /// locked as long as the keeper lives. A session without a note has begun. In `unsynced` the keeper says later whether a
-    /// sync failed.
+    // Brings a new room to where this file of the session leaves it, and gives what records it, in a list.
+    fn restore_and_keep<R: OwnFiles + Eprint>(
+        &self,
+        rt: &R,
+        session: u64,
+        file: File,
+        note: Option<Note>,
+        unsynced: Unsynced,
+        room: &mut RestoredRoom,
+    ) -> Result<Vec<Option<FileKeeper>>, ToolFault<'a>>
+        ensures room { IsNewRoom self.now.opening.now.roles (map plain self.now.opening.now.types.items) room.old
+            → OnOk result (IsRestoredRoom self.now.opening.now.roles (map plain self.now.opening.now.types.items) room.new) }
+        ensures one { IfOk result (λ keepers. length keepers.items ≡ 1) }
+        ensures fault { IfErr result (IsOneFault session) }
+    {
+        let mut keepers = Vec::with_capacity(self.alloc, 1)?;
+        let read = self.restore_one(session, file, note, unsynced, room)?;
+        keepers.push_reserved(Some(self.keep(rt, session, read)?));
+        Ok(keepers)
+    }
+
+    /// The room of one session, as this file of it leaves it, and what records it, each in a list. The file is locked as long
+    /// as the keeper lives. A session without a note has begun. In `unsynced` the keeper says later whether a sync failed.
+    /// Not inlined, as `open`.
+    #[inline(never)]
     pub(crate) fn open_one<R: OwnFiles + Eprint>(
         &self,
         rt: &R,
         session: u64,
+        file: File,
         note: Option<Note>,
         unsynced: Unsynced,
-    ) -> Result<(RestoredRoom, FileKeeper), ToolFault<'a>>
-        ensures room { IfOk result
-            (λ r. IsRestoredRoom self.now.opening.now.roles (map plain self.now.opening.now.types.items) r.0) }
+    ) -> Result<(Vec<RestoredRoom>, Vec<Option<FileKeeper>>), ToolFault<'a>>
+        ensures room { IfOk result (λ r.
+            All (IsRestoredRoom self.now.opening.now.roles (map plain self.now.opening.now.types.items)) r.0.items) }
+        ensures one { IfOk result (λ r. length r.0.items ≡ 1) }
+        ensures kept { IfOk result (λ r. length r.1.items ≡ 1) }
         ensures fault { IfErr result (IsOneFault session) }
     {
-        let (room, read) = self.restore_one(rt, session, note, unsynced)?;
-        let kept = self.keep(rt, session, read)?;
-        Ok((room, kept))
+        let mut rooms = rooms_of(self.alloc, self.opening, 1)?;
+        match self.restore_and_keep(rt, session, file, note, unsynced, &mut rooms[0]) {
+            Ok(keepers) => Ok((rooms, keepers)),
+            Err(fault) => {
+                discard(rooms);
+                Err(fault)
+            }
+        }
     }
 
     /// Removes the file of a session that never had an entry, whose keeper still locks it, unless it has more than the mark:

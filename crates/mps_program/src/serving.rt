@@ -17,7 +17,9 @@ use crate::own_files::OwnFiles;
 use crate::rooms::rooms_of;
 use mps_base::write_number;
 use mps_dev::{OverWrite, Sink};
-use mps_hub::{Hub, Limits, ServeFault, Serving, Shares, Unguarded, first_lost, serve_recorded};
+use mps_hub::{
+    Hub, Limits, Lookout, ServeFault, Serving, Shares, Unguarded, Waits, first_lost, serve_recorded,
+};
 use mps_open::Opening;
 use mps_room::Room;
 use mps_words::JournalFolder;
@@ -27,9 +29,9 @@ use std::io;
 use std::net::{Ipv4Addr, Net, SocketAddr, TcpListener, TcpStream};
 use std::os::fd::AsRawFd;
 use std::rt::Files;
-use std::sync::Wait;
+use std::sync::{Arc, Wait};
 use std::thread::Threads;
-use std::time::Clock;
+use std::time::{Clock, Duration};
 
 // How many connections may wait to be accepted.
 const BACKLOG: i32 = 1_024;
@@ -172,6 +174,24 @@ pub(crate) fn listen<'a, R: Net<Listener = TcpListener, Stream = TcpStream>>(
     }
 }
 
+// By what the answers of so many sessions wait, where they may.
+pub(crate) fn lookout_of<'a, R: Net + Threads>(
+    rt: &R,
+    alloc: Global,
+    sessions: u64,
+    wait: Option<Duration>,
+) -> Result<Option<Arc<Lookout, Global>>, ToolFault<'a>>
+    ensures fault { IfErr result IsBindFault }
+{
+    let Some(longest) = wait else {
+        return Ok(None);
+    };
+    match Lookout::start(rt, alloc, sessions as usize, longest) {
+        Ok(lookout) => Ok(Some(lookout)),
+        Err(why) => Err(ToolFault::Bind { why: Some(why) }),
+    }
+}
+
 // Why the serving ended.
 fn unserved<'a>(fault: ServeFault) -> ToolFault<'a>
     ensures { result ≡ of_serving fault }
@@ -302,6 +322,8 @@ pub struct Service<'a> {
     pub first: u64,
     pub sessions: u64,
     pub limits: Limits,
+    /// How long an answer may wait where its line says so. `None`: no line may say so.
+    pub wait: Option<Duration>,
     pub journal: Option<JournalFolder<'a>>,
 }
 
@@ -400,6 +422,7 @@ where
         first,
         sessions,
         limits,
+        wait,
         journal,
     } = service;
     let Sessions {
@@ -409,7 +432,10 @@ where
     } = sessions_of(rt, &opening, first, sessions, journal, verbose)?;
     tell_refused(rt, refused, sessions, verbose)?;
     let shares = Shares::of(alloc, limits.share, rooms.as_slice())?;
-    let hub = Hub::of_restored(alloc, &opening.roles, first, rooms)?.sharing(shares);
+    let waits = lookout_of(rt, alloc, sessions, wait)?.map(|lookout| Waits::new(lookout, 0));
+    let hub = Hub::of_restored(alloc, &opening.roles, first, rooms)?
+        .sharing(shares)
+        .waiting(waits);
     let mut writer = OverWrite::new(io::writer(rt));
     serve_to(rt, &mut writer, hub, keepers, port, limits, verbose)
 }

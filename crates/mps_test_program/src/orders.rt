@@ -44,7 +44,7 @@ const ORDERS: &[Words] = &[
             "--sessions=2",
             "--endless",
         ],
-        "Serve { file: \"a.protocol\", port: 0, sessions: 2, first: 1, connections: None, idle: None, share: 100, journal: None, verbose: false }",
+        "Serve { file: \"a.protocol\", port: 0, sessions: 2, first: 1, connections: None, idle: None, wait: None, share: 100, journal: None, verbose: false }",
     ),
     Words(
         &[
@@ -56,7 +56,7 @@ const ORDERS: &[Words] = &[
             "--connections=3",
             "-v",
         ],
-        "Serve { file: \"a.protocol\", port: 0, sessions: 2, first: 1, connections: Some(3), idle: None, share: 100, journal: None, verbose: true }",
+        "Serve { file: \"a.protocol\", port: 0, sessions: 2, first: 1, connections: Some(3), idle: None, wait: None, share: 100, journal: None, verbose: true }",
     ),
     Words(
         &[
@@ -129,7 +129,7 @@ const ORDERS: &[Words] = &[
     // a host: how many sessions are open, and, where they are recorded, for how long
     Words(
         &["mps_tool", "host", "a.protocol", "--port=0"],
-        "Host { file: \"a.protocol\", port: 0, open: 10000, keep: 10, idle: None, share: 50, journal: None, verbose: false }",
+        "Host { file: \"a.protocol\", port: 0, open: 10000, keep: 10, idle: None, wait: None, share: 50, journal: None, verbose: false }",
     ),
     Words(
         &[
@@ -141,7 +141,7 @@ const ORDERS: &[Words] = &[
             "--keep=3",
             "--open=1048576",
         ],
-        "Host { file: \"a.protocol\", port: 0, open: 1048576, keep: 3, idle: None, share: 50, journal: Some(",
+        "Host { file: \"a.protocol\", port: 0, open: 1048576, keep: 3, idle: None, wait: None, share: 50, journal: Some(",
     ),
     Words(&["mps_tool", "host", "a.protocol"], "2"),
     Words(
@@ -155,7 +155,7 @@ const ORDERS: &[Words] = &[
     // the share of a session that one role may fill
     Words(
         &["mps_tool", "host", "a.protocol", "--port=0", "--share=100"],
-        "Host { file: \"a.protocol\", port: 0, open: 10000, keep: 10, idle: None, share: 100, ",
+        "Host { file: \"a.protocol\", port: 0, open: 10000, keep: 10, idle: None, wait: None, share: 100, ",
     ),
     Words(
         &["mps_tool", "host", "a.protocol", "--port=0", "--share=101"],
@@ -175,7 +175,32 @@ const ORDERS: &[Words] = &[
             "--endless",
             "--share=1",
         ],
-        "Serve { file: \"a.protocol\", port: 0, sessions: 2, first: 1, connections: None, idle: None, share: 1, ",
+        "Serve { file: \"a.protocol\", port: 0, sessions: 2, first: 1, connections: None, idle: None, wait: None, share: 1, ",
+    ),
+    // for how many seconds an answer may wait
+    Words(
+        &["mps_tool", "host", "a.protocol", "--port=0", "--wait=3600"],
+        "Host { file: \"a.protocol\", port: 0, open: 10000, keep: 10, idle: None, wait: Some(3600), share: 50, ",
+    ),
+    Words(
+        &["mps_tool", "host", "a.protocol", "--port=0", "--wait=3601"],
+        "2",
+    ),
+    Words(
+        &["mps_tool", "host", "a.protocol", "--port=0", "--wait=0"],
+        "2",
+    ),
+    Words(
+        &[
+            "mps_tool",
+            "serve",
+            "a.protocol",
+            "--port=0",
+            "--sessions=2",
+            "--endless",
+            "--wait=1",
+        ],
+        "Serve { file: \"a.protocol\", port: 0, sessions: 2, first: 1, connections: None, idle: None, wait: Some(1), share: 100, ",
     ),
     // use and version
     Words(&["mps_tool", "--help"], "Offline { task: Help { text: "),

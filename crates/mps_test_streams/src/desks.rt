@@ -3,14 +3,16 @@ ghost use Rattle.std.specs.Prelude.{◌≡◌, false, IfOk};
 
 use mps_base::{Name, Role, Roles, Sort};
 use mps_dev::{Pieces, Short};
-use mps_hub::{Attended, Desk, Hub, Serving, Unguarded};
+use mps_hub::{Attended, Desk, Hub, Lookout, Serving, Unguarded, Waits};
 use mps_local::Local;
 use mps_session::OpenFault;
 use mps_wire::Ending;
 use std::alloc::Global;
+use std::net::Net;
 use std::sync::Wait;
 use std::test::Fail;
-use std::time::Clock;
+use std::thread::Threads;
+use std::time::{Clock, Duration};
 
 // The roles a and b.
 fn two_names(alloc: Global) -> Result<Roles, Fail> {
@@ -255,5 +257,48 @@ fn a_pass_that_is_taken_is_refused(rt: HostRuntime) -> Result<(), Fail> {
         is_taken(&rt, rt.alloc(), &desk)?,
         "refused while it is taken, joined once it is given back"
     );
+    Ok(())
+}
+
+// A hub with one session, whose answers wait for a millisecond at most.
+fn waiting_hub<R: Net + Threads>(rt: &R, alloc: Global) -> Result<Hub, Fail>
+    ensures { IfOk result (λ h. h.given ≡ false) }
+{
+    match Lookout::start(rt, alloc, 1, Duration::from_millis(1)) {
+        Ok(lookout) => Ok(hub(alloc)?.waiting(Some(Waits::new(lookout, 0)))),
+        Err(_) => Err("no lookout".into()),
+    }
+}
+
+// How a connection of b ends that sends these lines, and is answered so.
+fn waited<R: Wait + Clock + Eprint + 'static>(
+    rt: &R,
+    alloc: Global,
+    hub: &mut Hub,
+    answers: &[u8],
+) -> Result<Attended, Fail>
+    requires { hub.old.given ≡ false }
+{
+    let desk = desk_of(alloc, hub)?;
+    let lines = b"join 1 b\nwait 60000 1 recv a x\nwait 60000 news 0\nwait 60000 nothing\n";
+    attended(
+        rt,
+        alloc,
+        &desk,
+        line_and_letters(alloc, lines, 0)?,
+        answers,
+    )
+}
+
+// `mps_hub::Serving::attend` at a hub that is `waiting`: answers wait where their lines say so, but no longer than a millisecond.
+// Else no line may say so.
+#[test]
+fn answers_wait_where_they_may(rt: HostRuntime) -> Result<(), Fail> {
+    let mut waiting = waiting_hub(&rt, rt.alloc())?;
+    let answers = b"joined 1 b\nrefused ended\nnews 0\nrefused line\n";
+    waited(&rt, rt.alloc(), &mut waiting, answers)?;
+    let mut other = hub(rt.alloc())?.waiting(None);
+    let answers = b"joined 1 b\nrefused line\nrefused line\nrefused line\n";
+    waited(&rt, rt.alloc(), &mut other, answers)?;
     Ok(())
 }

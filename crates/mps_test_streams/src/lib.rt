@@ -21,3 +21,5 @@ mod pieces;
 mod protocols;
 #[cfg(test)]
 mod scripts;
+#[cfg(test)]
+mod waiting;

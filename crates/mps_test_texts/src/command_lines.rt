@@ -6,7 +6,9 @@ use crate::words::{name, three_roles, two_roles};
 use mps_base::{Role, Roles, Value};
 use mps_command::{Command, Forward};
 use mps_line::laws::{one_command, one_numbered};
-use mps_line::{LineFault, append_command, read_command, read_numbered, read_script_line};
+use mps_line::{
+    LineFault, append_command, read_command, read_numbered, read_script_line, split_wait,
+};
 use std::alloc::{AllocGlobal, Global};
 use std::process::Abort;
 
@@ -499,5 +501,51 @@ fn a_number_before_no_change_is_bad(rt: HostRuntime) {
             is_bad_numbered(rt.alloc(), &roles, line),
             "`{line}` is no line of a conversation"
         );
+    }
+}
+
+// Lines, and for how many milliseconds the answer of which line may wait, if they say so.
+const WAITS: &[(&str, Option<(u64, &str)>)] = &[
+    ("wait 20000 5 recv a x", Some((20_000, "5 recv a x"))),
+    ("wait 0 news 7", Some((0, "news 7"))),
+    ("wait 18446744073709551615 show", Some((u64::MAX, "show"))),
+    // what follows isn't read
+    ("wait 5 ", Some((5, ""))),
+    ("wait 5  pick a", Some((5, " pick a"))),
+    ("wait 5 wait 6 pick a", Some((5, "wait 6 pick a"))),
+    // no number, or one in another spelling
+    ("wait 18446744073709551616 show", None),
+    ("wait 05 show", None),
+    ("wait +5 show", None),
+    ("wait 5s show", None),
+    ("wait pick a", None),
+    ("wait  5 show", None),
+    // another word, or nothing after the number
+    ("waits 5 show", None),
+    ("Wait 5 show", None),
+    (" wait 5 show", None),
+    ("wait5 show", None),
+    ("wait 5", None),
+    ("wait", None),
+    ("5 show", None),
+    ("", None),
+];
+
+// Whether the line is split so.
+fn is_split(line: &str, want: &Option<(u64, &str)>) -> bool {
+    match (split_wait(line.as_bytes()), want) {
+        (Some((limit, rest)), Some((milliseconds, text))) => {
+            limit == *milliseconds && rest == text.as_bytes()
+        }
+        (None, None) => true,
+        _ => false,
+    }
+}
+
+// `mps_line::split_wait` splits a line that begins with `wait` and a number.
+#[test]
+fn a_line_that_waits_is_split(rt: HostRuntime) {
+    for (line, want) in WAITS {
+        assert!(rt; is_split(line, want), "how `{line}` is split");
     }
 }

@@ -1,9 +1,11 @@
 -- What one read of a conversation leads to, and how it ends.
-use Rattle.std.proofs.Common.{arith, ◌≡◌, ℕ, ◌+◌, List, [], Some, ap, ◌∙◌, append-nil}
-use Rattle.std.specs.Prelude.{Result, Err, OnErr}
+use Rattle.std.proofs.Common.{arith, ◌≡◌, ℕ, ◌+◌, Bool, List, [], Some, ap, subst, ◌∙◌, append-nil}
+use Rattle.std.specs.Prelude.{Option, Result, Err, OnErr}
 use Rattle.std.specs.Io.KnownBytes.{Consumes}
 use Rattle.mps_lines.proofs.Splitting.{split_nothing}
+use Rattle.mps_room.specs.declared.caller.Caller.{Ghosts}
 use Rattle.mps_wire.specs.Answers.{Answering}
+use Rattle.mps_wire.specs.Conversations.{ConversesLine, ConversesBrokenOff}
 use Rattle.mps_wire.specs.Endings.{EndedAs, WasAnswered, WasBrokenOff}
 use Rattle.mps_wire.specs.Private.Endings.{TurnedTo, TakesOn, TakesBrokenOff, failed_by}
 use Rattle.mps_wire.specs.Runs.{Going}
@@ -44,3 +46,10 @@ module _ {S : Type 0} (answers broken : Answering S) (start : S) where
   -- the read that ended it
   pub ends_as : (first old now : Streams) (kept : List ℕ) (st : S) (e : Ending) → Counts first old all_went_well → TurnedTo answers broken start first old now kept st (Some e) → EndedAs answers broken start first now st e
   ends_as first old now kept st e counts h = grind (arith, counts_more)
+
+-- what one read comes to, where lines may wait as they might at first
+pub step_as_first : {C : Type 0} (caller : Ghosts C) (b b' : Bool) → b ≡ b' → (start : C) (first old now : Streams) (kept : List ℕ) (st : C) (kept' : List ℕ) (st' : C) (e : Option Ending)
+    → (Going (ConversesLine caller b) start first old kept st → TurnedTo (ConversesLine caller b) (ConversesBrokenOff caller b) start first old now kept' st' e)
+    → Going (ConversesLine caller b') start first old kept st → TurnedTo (ConversesLine caller b') (ConversesBrokenOff caller b') start first old now kept' st' e
+step_as_first {C} caller b b' same start first old now kept st kept' st' e step =
+    subst (λ (w : Bool). Going (ConversesLine caller w) start first old kept st → TurnedTo (ConversesLine caller w) (ConversesBrokenOff caller w) start first old now kept' st' e) same step

@@ -1,5 +1,5 @@
 -- What lines answer a script or a conversation in a session of one protocol.
-use Rattle.std.proofs.Common.{arith, ◌≡◌, ◌≢◌, ⊎_elim, ℕ, List, [], ◌∷◌, ◌++◌, refl, sym, ap, ◌∙◌, subst, append_assoc, append-nil}
+use Rattle.std.proofs.Common.{arith, ◌≡◌, ◌≢◌, ⊎_elim, ℕ, zero, suc, Bool, List, [], ◌∷◌, ◌++◌, refl, sym, ap, ◌∙◌, subst, append_assoc, append-nil}
 use Rattle.std.specs.Prelude.{codes, ⊤}
 use Rattle.std.specs.List.{AllByRecursion, flat_map}
 use Rattle.std.proofs.lemmas.Option.{same_Some}
@@ -101,41 +101,51 @@ module _ (one_reply : (a : List ℕ) (r s : Reply) → SpellsReply a r → Spell
     reply_free : (line : List ℕ) (c : C) (r : Reply) (d : C) → HasNoMismatch caller types c → conversations.RepliesTo caller line c r d → (r ≢ mismatched) × HasNoMismatch caller types d
     reply_free line c r d free others = grind (arith, same_Some)
 
-    conversed_line : (line : List ℕ) (c : C) (text : List ℕ) (d : C) → HasNoMismatch caller types c → conversations.RepliesInText caller line c text d → IsFit text × HasNoMismatch caller types d
-    conversed_line line c text d free a =
-        let r = reply_free line c a.reply d free a.replies in
-        (text_fits text a.reply a.spelled r.0, r.1)
+    looks_free : (line : List ℕ) (n : ℕ) (c d : C) → HasNoMismatch caller types c → conversations.LooksInVain caller line n c d → HasNoMismatch caller types d
+    looks_free line zero c d free l = subst (HasNoMismatch caller types) (sym l) free
+    looks_free line (suc n) c d free l = (reply_free line l.0 l.1 d (looks_free line n c l.0 free l.2) l.3).1
 
-    -- the same lines, whether they may be told or not
-    abbrev said : Answering C
-    said line c text d = conversations.RepliesInText caller line c text d
+    -- Lines that may wait, or may not.
+    module _ (waits : Bool) where
+      in_time_free : (line : List ℕ) (c : C) (r : Reply) (d : C) → HasNoMismatch caller types c → conversations.RepliesInTime caller waits line c r d → (r ≢ mismatched) × HasNoMismatch caller types d
+      in_time_free line c r d free (conversations.AtOnce none at_once) = reply_free line c r d free at_once
+      in_time_free line c r d free (conversations.Later w) = reply_free w.rest w.mid r d (looks_free w.rest w.looks c w.mid free w.in_vain) w.replies
 
-    lines_said : (lines : List (List ℕ)) (c : C) (out : List ℕ) (d : C) → AnswersLines (ConversesLine caller) lines c out d → AnswersLines said lines c out d
-    lines_said [] c out d a = a
-    lines_said (l ∷ lines) c out d a = (a.0, a.1, a.2, a.3, a.4.line_is, lines_said lines a.2 a.1 d a.5)
+      conversed_line : (line : List ℕ) (c : C) (text : List ℕ) (d : C) → HasNoMismatch caller types c → conversations.RepliesInText caller waits line c text d → IsFit text × HasNoMismatch caller types d
+      conversed_line line c text d free a =
+          let r = in_time_free line c a.reply d free a.replies in
+          (text_fits text a.reply a.spelled r.0, r.1)
 
-    said_fits : (asked lines : List (List ℕ)) (c d : C) (out written unwritten rest : List ℕ) → HasNoMismatch caller types c → AnswersLines said asked c out d → out ≡ written ++ unwritten → IsSplit written lines rest → AllByRecursion Fits lines
-    said_fits asked lines c d out written unwritten rest free a e split =
-        written_fits said (HasNoMismatch caller types) conversed_line asked lines c d out written unwritten rest free a e split
+      -- the same lines, whether they may be told or not
+      abbrev said : Answering C
+      said line c text d = conversations.RepliesInText caller waits line c text d
 
-    pub conversation_fits : (asked lines : List (List ℕ)) (c d : C) (out written unwritten rest : List ℕ) → HasNoMismatch caller types c → AnswersLines (ConversesLine caller) asked c out d → out ≡ written ++ unwritten → IsSplit written lines rest → AllByRecursion Fits lines
-    conversation_fits asked lines c d out written unwritten rest free a e split = said_fits asked lines c d out written unwritten rest free (lines_said asked c out d a) e split
+      lines_said : (lines : List (List ℕ)) (c : C) (out : List ℕ) (d : C) → AnswersLines (ConversesLine caller waits) lines c out d → AnswersLines said lines c out d
+      lines_said [] c out d a = a
+      lines_said (l ∷ lines) c out d a = (a.0, a.1, a.2, a.3, a.4.line_is, lines_said lines a.2 a.1 d a.5)
 
-    -- of answers of which the last breaks off, those of which something is written, whole
-    completed : (lines : List (List ℕ)) (c : C) (written : List ℕ) (d : C) → AnswersBrokenOff (ConversesLine caller) (ConversesBrokenOff caller) lines c written d
-        → (told : List (List ℕ)) × (unwritten : List ℕ) × (e : C) × AnswersLines said told c (written ++ unwritten) e
-    completed [] c written d a = ([], [], d, (ap (λ (l : List ℕ). l ++ []) a.0, a.1))
-    completed (l ∷ []) c written d a =
-        ⊎_elim
-        (λ (none : written ≡ []). ([], [], c, (ap (λ (w : List ℕ). w ++ []) none, refl)))
-        (λ (f : (text : List ℕ) × (unwritten : List ℕ) × SpellsReply text a.reply × (ended text ≡ written ++ unwritten)).
-        (l ∷ [], f.1, d, (f.0, [], d, sym f.3 ∙ sym (append-nil (ended f.0)), record { reply = a.reply; replies = a.replies; spelled = f.2 }, (refl, refl))))
-        a.begun
-    completed (l ∷ m ∷ lines) c written d a =
-        let more = completed (m ∷ lines) a.2 a.1 d a.5 in
-        (l ∷ more.0, more.1, more.2, (a.0, a.1 ++ more.1, a.2, ap (λ (x : List ℕ). x ++ more.1) a.3 ∙ append_assoc (ended a.0) a.1 more.1, a.4.line_is, more.3))
+      said_fits : (asked lines : List (List ℕ)) (c d : C) (out written unwritten rest : List ℕ) → HasNoMismatch caller types c → AnswersLines said asked c out d → out ≡ written ++ unwritten → IsSplit written lines rest → AllByRecursion Fits lines
+      said_fits asked lines c d out written unwritten rest free a e split =
+          written_fits said (HasNoMismatch caller types) conversed_line asked lines c d out written unwritten rest free a e split
 
-    pub conversation_broken_fits : (asked lines : List (List ℕ)) (c d : C) (written rest : List ℕ) → HasNoMismatch caller types c → AnswersBrokenOff (ConversesLine caller) (ConversesBrokenOff caller) asked c written d → IsSplit written lines rest → AllByRecursion Fits lines
-    conversation_broken_fits asked lines c d written rest free a split =
-        let w = completed asked c written d a in
-        said_fits w.0 lines c w.2 (written ++ w.1) written w.1 rest free w.3 refl split
+      pub conversation_fits : (asked lines : List (List ℕ)) (c d : C) (out written unwritten rest : List ℕ) → HasNoMismatch caller types c → AnswersLines (ConversesLine caller waits) asked c out d → out ≡ written ++ unwritten → IsSplit written lines rest → AllByRecursion Fits lines
+      conversation_fits asked lines c d out written unwritten rest free a e split = said_fits asked lines c d out written unwritten rest free (lines_said asked c out d a) e split
+
+      -- of answers of which the last breaks off, those of which something is written, whole
+      completed : (lines : List (List ℕ)) (c : C) (written : List ℕ) (d : C) → AnswersBrokenOff (ConversesLine caller waits) (ConversesBrokenOff caller waits) lines c written d
+          → (told : List (List ℕ)) × (unwritten : List ℕ) × (e : C) × AnswersLines said told c (written ++ unwritten) e
+      completed [] c written d a = ([], [], d, (ap (λ (l : List ℕ). l ++ []) a.0, a.1))
+      completed (l ∷ []) c written d a =
+          ⊎_elim
+          (λ (none : written ≡ []). ([], [], c, (ap (λ (w : List ℕ). w ++ []) none, refl)))
+          (λ (f : (text : List ℕ) × (unwritten : List ℕ) × SpellsReply text a.reply × (ended text ≡ written ++ unwritten)).
+          (l ∷ [], f.1, d, (f.0, [], d, sym f.3 ∙ sym (append-nil (ended f.0)), record { reply = a.reply; replies = a.replies; spelled = f.2 }, (refl, refl))))
+          a.begun
+      completed (l ∷ m ∷ lines) c written d a =
+          let more = completed (m ∷ lines) a.2 a.1 d a.5 in
+          (l ∷ more.0, more.1, more.2, (a.0, a.1 ++ more.1, a.2, ap (λ (x : List ℕ). x ++ more.1) a.3 ∙ append_assoc (ended a.0) a.1 more.1, a.4.line_is, more.3))
+
+      pub conversation_broken_fits : (asked lines : List (List ℕ)) (c d : C) (written rest : List ℕ) → HasNoMismatch caller types c → AnswersBrokenOff (ConversesLine caller waits) (ConversesBrokenOff caller waits) asked c written d → IsSplit written lines rest → AllByRecursion Fits lines
+      conversation_broken_fits asked lines c d written rest free a split =
+          let w = completed asked c written d a in
+          said_fits w.0 lines c w.2 (written ++ w.1) written w.1 rest free w.3 refl split

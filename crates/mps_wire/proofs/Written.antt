@@ -15,7 +15,7 @@ use Rattle.mps_machine.specs.View.{View, opening}
 use Rattle.mps_machine.specs.Violations.{violation}
 use Rattle.mps_machine.proofs.Defined.{allowed_step}
 use Rattle.mps_machine.proofs.Sound.{initial_sound, view_is}
-use Rattle.mps_room.specs.Journal.{run, limited, answer_to, is_accepted, IsEntryAfter, FollowsOn}
+use Rattle.mps_room.specs.Journal.{run, limited, answer_to, is_accepted, FollowsOn}
 use Rattle.mps_room.specs.declared.entry.Entry.{Entry}
 use Rattle.mps_room.proofs.Faithful.{run_sound}
 use Rattle.mps_session.specs.Peers.{HavePeers, IsPeerKnown}

@@ -1,10 +1,12 @@
 -- What a conversation does to its caller, and what the caller is answered.
-use Rattle.std.specs.Prelude.{◌≡◌, ◌⊎◌, true, false, ℕ, ◌≤◌, List, [], ◌++◌, length, Option, None, Some}
+use Rattle.std.specs.Prelude.{◌≡◌, ◌⊎◌, Bool, true, false, ℕ, zero, suc, ◌≤◌, List, [], ◌++◌, length, Option, None, Some, ⊤}
 use Rattle.std.specs.Str.{IsAscii}
 use Rattle.mps_command.specs.declared.answer.Answer.{Answer}
-use Rattle.mps_command.specs.declared.answer.Answer.TheVariants.{Refused}
+use Rattle.mps_command.specs.declared.answer.Answer.TheVariants.{News, Refused}
+use Rattle.mps_command.specs.declared.answer.Refusal.TheVariants.{Violation as Violates}
+use Rattle.mps_command.specs.declared.answer.Violation.TheVariants.{NothingQueued}
 use Rattle.mps_command.specs.declared.command.Command.{Command}
-use Rattle.mps_line.specs.Commands.{SpellsNumbered}
+use Rattle.mps_line.specs.Commands.{SpellsNumbered, SpellsWait}
 use Rattle.mps_line.specs.Replies.{SpellsReply}
 use Rattle.mps_line.specs.declared.write_replies.Reply.{Reply}
 use Rattle.mps_line.specs.declared.write_replies.Reply.TheVariants.{Answer as Answered, Number as WrongNumber}
@@ -72,10 +74,46 @@ module _ {C : Type 0} (caller : Ghosts C) (line : List ℕ) (c : C) where
     Numbered : IsNumberedCall reply d → RepliesTo reply d
     Starved : IsStarved (IsRequest (caller.names c) line) c reply d → RepliesTo reply d
 
+-- the reply only says that there is nothing yet: no message, or no news
+abbrev pub IsNothingYet : Reply → Type 0
+IsNothingYet (Answered (Refused (Violates NothingQueued))) = ⊤
+IsNothingYet (Answered (News length [])) = ⊤
+IsNothingYet reply = ⊥
+
+-- so many replies to the line, one after the other, each of which only says that there is nothing yet
+abbrev pub LooksInVain : {C : Type 0} → Ghosts C → (line : List ℕ) → ℕ → C → C → Type 0
+LooksInVain caller line zero c d = d ≡ c
+LooksInVain {C} caller line (suc n) c d =
+    (m : C) × (reply : Reply) × LooksInVain caller line n c m × RepliesTo caller line m reply d × IsNothingYet reply
+
+-- where lines may wait, this one does, for so many milliseconds at most, and is answered as the rest of it is
+pub record IsWaitingLine (waits : Bool) (line : List ℕ) (limit : ℕ) (rest : List ℕ) : Type 0 where
+  pub may : waits ≡ true
+  pub short : length line ≤ max_line
+  pub spelled : SpellsWait line limit rest
+
+-- What one line does to a caller whose lines may wait, or may not.
+module _ {C : Type 0} (caller : Ghosts C) (waits : Bool) (line : List ℕ) (c : C) where
+  -- a line that waits: its rest gets replies that there is nothing yet, as many as they are, and then this one
+  pub record RepliesLater (reply : Reply) (d : C) : Type 0 where
+    pub limit : ℕ
+    pub rest : List ℕ
+    pub waiting : IsWaitingLine waits line limit rest
+    pub looks : ℕ
+    pub mid : C
+    pub in_vain : LooksInVain caller rest looks c mid
+    pub replies : RepliesTo caller rest mid reply d
+
+  -- the reply to the line, and the caller after it
+  pub data RepliesInTime (reply : Reply) (d : C) : Type 0 where
+    AtOnce : ((limit : ℕ) (rest : List ℕ) → IsWaitingLine waits line limit rest → ⊥) → RepliesTo caller line c reply d
+        → RepliesInTime reply d
+    Later : RepliesLater reply d → RepliesInTime reply d
+
   -- the text that answers the line, and the caller after it
   pub record RepliesInText (text : List ℕ) (d : C) : Type 0 where
     pub reply : Reply
-    pub replies : RepliesTo reply d
+    pub replies : RepliesInTime reply d
     pub spelled : SpellsReply text reply
 
   -- the text that answers the line, which may be told, and the caller after it
@@ -86,6 +124,6 @@ module _ {C : Type 0} (caller : Ghosts C) (line : List ℕ) (c : C) where
   -- this front of a text that answers the line is written; nothing, where it may not be told
   pub record ConversesBrokenOff (written : List ℕ) (d : C) : Type 0 where
     pub reply : Reply
-    pub replies : RepliesTo reply d
+    pub replies : RepliesInTime reply d
     pub begun : BeginsReply reply written
     pub silent : caller.may_tell d ≡ false → written ≡ []

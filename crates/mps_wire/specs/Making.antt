@@ -1,5 +1,5 @@
 -- The entries that a conversation makes: its accepted commands, in order.
-use Rattle.std.specs.Prelude.{ℕ, List, [], ◌∷◌, ◌++◌, if◌then◌else◌}
+use Rattle.std.specs.Prelude.{ℕ, zero, suc, Bool, List, [], ◌∷◌, ◌++◌, if◌then◌else◌}
 use Rattle.mps_command.specs.declared.answer.Answer.{Answer}
 use Rattle.mps_command.specs.declared.command.Command.{Command}
 use Rattle.mps_line.specs.declared.write_replies.Reply.{Reply}
@@ -11,8 +11,8 @@ use Rattle.mps_room.specs.declared.entry.Entry.{Entry}
 use Rattle.mps_room.specs.declared.numbers.Told.{Told}
 use Rattle.mps_room.specs.declared.numbers.Told.TheVariants.{Fresh, Kept, Wrong, Refused}
 use Rattle.mps_wire.specs.Answers.{AnswersBrokenOff, AnswersLines}
-use Rattle.mps_wire.specs.Conversations.{RepliesTo, Unread, Called, Numbered, Starved, RepliesInText, ConversesLine}
-use Rattle.mps_wire.specs.Conversations.{ConversesBrokenOff}
+use Rattle.mps_wire.specs.Conversations.{RepliesTo, Unread, Called, Numbered, Starved, LooksInVain, RepliesInTime}
+use Rattle.mps_wire.specs.Conversations.{AtOnce, Later, RepliesInText, ConversesLine, ConversesBrokenOff}
 
 -- of one command: its entry, where the answer accepts it
 abbrev pub accepted_of : ℕ → Command → Answer → List Entry
@@ -34,21 +34,34 @@ module _ {C : Type 0} (caller : Ghosts C) where
   accepted_reply line c reply d (Numbered s) = accepted_anew c s.number s.command d s.came s.numbered
   accepted_reply line c reply d (Starved s) = []
 
-  -- of one line
-  abbrev pub accepted_line : (line : List ℕ) (c : C) (text : List ℕ) (d : C) → RepliesInText caller line c text d
-      → List Entry
-  accepted_line line c text d a = accepted_reply line c a.reply d a.replies
+  -- of replies one after the other
+  abbrev pub accepted_looks : (line : List ℕ) (n : ℕ) (c d : C) → LooksInVain caller line n c d → List Entry
+  accepted_looks line zero c d l = []
+  accepted_looks line (suc n) c d l = accepted_looks line n c l.0 l.2 ++ accepted_reply line l.0 l.1 d l.3
 
-  -- of lines that are answered
-  abbrev pub accepted_lines : (lines : List (List ℕ)) (c : C) (out : List ℕ) (d : C)
-      → AnswersLines (ConversesLine caller) lines c out d → List Entry
-  accepted_lines [] c out d a = []
-  accepted_lines (l ∷ lines) c out d a = accepted_line l c a.0 a.2 a.4.line_is ++ accepted_lines lines a.2 a.1 d a.5
+  -- What lines make that may wait, or may not.
+  module _ (waits : Bool) where
+    abbrev pub accepted_in_time : (line : List ℕ) (c : C) (reply : Reply) (d : C)
+        → RepliesInTime caller waits line c reply d → List Entry
+    accepted_in_time line c reply d (AtOnce none r) = accepted_reply line c reply d r
+    accepted_in_time line c reply d (Later w) =
+        accepted_looks w.rest w.looks c w.mid w.in_vain ++ accepted_reply w.rest w.mid reply d w.replies
 
-  -- of lines that are answered, where the last answer breaks off
-  abbrev pub accepted_broken_off : (lines : List (List ℕ)) (c : C) (out : List ℕ) (d : C)
-      → AnswersBrokenOff (ConversesLine caller) (ConversesBrokenOff caller) lines c out d → List Entry
-  accepted_broken_off [] c out d a = []
-  accepted_broken_off (l ∷ []) c out d a = accepted_reply l c a.reply d a.replies
-  accepted_broken_off (l ∷ m ∷ lines) c out d a =
-      accepted_line l c a.0 a.2 a.4.line_is ++ accepted_broken_off (m ∷ lines) a.2 a.1 d a.5
+    -- of one line
+    abbrev pub accepted_line : (line : List ℕ) (c : C) (text : List ℕ) (d : C) → RepliesInText caller waits line c text d
+        → List Entry
+    accepted_line line c text d a = accepted_in_time line c a.reply d a.replies
+
+    -- of lines that are answered
+    abbrev pub accepted_lines : (lines : List (List ℕ)) (c : C) (out : List ℕ) (d : C)
+        → AnswersLines (ConversesLine caller waits) lines c out d → List Entry
+    accepted_lines [] c out d a = []
+    accepted_lines (l ∷ lines) c out d a = accepted_line l c a.0 a.2 a.4.line_is ++ accepted_lines lines a.2 a.1 d a.5
+
+    -- of lines that are answered, where the last answer breaks off
+    abbrev pub accepted_broken_off : (lines : List (List ℕ)) (c : C) (out : List ℕ) (d : C)
+        → AnswersBrokenOff (ConversesLine caller waits) (ConversesBrokenOff caller waits) lines c out d → List Entry
+    accepted_broken_off [] c out d a = []
+    accepted_broken_off (l ∷ []) c out d a = accepted_in_time l c a.reply d a.replies
+    accepted_broken_off (l ∷ m ∷ lines) c out d a =
+        accepted_line l c a.0 a.2 a.4.line_is ++ accepted_broken_off (m ∷ lines) a.2 a.1 d a.5

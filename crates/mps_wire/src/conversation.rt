@@ -1,10 +1,10 @@
 //! A conversation over streams.
 ghost use Rattle.std.specs.Prelude.{◌≡◌, ◌+◌, ◌<◌, ◌≤◌, ◌^◌, ◌++◌, ℕ, List, length, Some, Err, OnOk, OnErr, IfNone};
-ghost use Rattle.std.specs.Prelude.{false};
+ghost use Rattle.std.specs.Prelude.{Bool, false};
 ghost use Rattle.mps_command.specs.declared.answer.Answer.{Answer as Response};
 ghost use Rattle.mps_command.specs.declared.command.Command.{Command as Asked};
 ghost use Rattle.mps_lines.specs.Lines.{most_kept};
-ghost use Rattle.mps_wire.specs.Conversations.{RepliesTo, ConversesLine, ConversesBrokenOff, reply_of};
+ghost use Rattle.mps_wire.specs.Conversations.{RepliesInTime, ConversesLine, ConversesBrokenOff, reply_of};
 ghost use Rattle.mps_wire.specs.declared.conversation.Broken.TheVariants.{Memory as OutOfMemory, Untold as MayNot};
 ghost use Rattle.mps_wire.specs.Endings.{EndedAs};
 ghost use Rattle.mps_wire.specs.Private.Endings.{TurnedTo, IsBrokenOff, IsWholly, TakesOn, TakesBrokenOff};
@@ -13,8 +13,9 @@ ghost use Rattle.mps_dev.specs.Reads.{max_reads};
 ghost use Rattle.mps_wire.specs.Runs.{Going};
 ghost use Rattle.mps_wire.specs.Streams.{streams};
 
-use crate::reply::{Outcome, take_line, write_outcome};
+use crate::reply::{Outcome, write_outcome};
 use crate::sending::send_all;
+use crate::waiting::{NoVigil, Vigil, take_line_waiting};
 use mps_dev::{Failed, MAX_READS, Sink, Source};
 use mps_lines::{keep, line_end};
 use mps_room::Caller;
@@ -96,13 +97,13 @@ impl Conversation {
         requires { W.failed_calls writer.old < 2 ^ 63 }
         ensures line { self.new.line.items ≡ self.old.line.items }
         ensures writes { W.failed_calls writer.new ≡ W.failed_calls writer.old + failed_by result }
-        ensures ok { (line : List ℕ) (start : C)
-            → RepliesTo C.Caller line start (reply_of outcome (C.kept caller.now)) caller.now
+        ensures ok { (waits : Bool) (line : List ℕ) (start : C)
+            → RepliesInTime C.Caller waits line start (reply_of outcome (C.kept caller.now)) caller.now
             → OnOk result
-            (IsWholly (ConversesLine C.Caller) line start caller.now (W.taken writer.old) (W.taken writer.new)) }
-        ensures err { (line : List ℕ) (start : C)
-            → RepliesTo C.Caller line start (reply_of outcome (C.kept caller.now)) caller.now
-            → OnErr result (IsBrokenOff (ConversesBrokenOff C.Caller) line start caller.now (W.taken writer.old)
+            (IsWholly (ConversesLine C.Caller waits) line start caller.now (W.taken writer.old) (W.taken writer.new)) }
+        ensures err { (waits : Bool) (line : List ℕ) (start : C)
+            → RepliesInTime C.Caller waits line start (reply_of outcome (C.kept caller.now)) caller.now
+            → OnErr result (IsBrokenOff (ConversesBrokenOff C.Caller waits) line start caller.now (W.taken writer.old)
             (W.taken writer.new)) }
         ensures untold { result ≡ Err MayNot → C.may_tell caller.now ≡ false }
     {
@@ -125,9 +126,10 @@ impl Conversation {
     // Takes bytes that were read, and runs and answers each line that they end before it looks at the next one. A rest
     // without an LF is kept, up to 513 bytes. After an error the lines before were answered; the one at hand may have
     // been run.
-    fn feed<C: Caller, W: Sink>(
+    fn feed<C: Caller, V: Vigil, W: Sink>(
         &mut self,
         caller: &mut C,
+        vigil: &mut V,
         writer: &mut W,
         bytes: &[u8],
     ) -> Result<(), Broken>
@@ -135,12 +137,13 @@ impl Conversation {
         requires writes { W.failed_calls writer.old < 2 ^ 63 }
         ensures writes { W.failed_calls writer.new ≡ W.failed_calls writer.old + failed_by result }
         ensures short { OnOk result (length self.new.line.items ≤ most_kept) }
+        ensures waits { V.waits vigil.new ≡ V.waits vigil.old }
         ensures ok { OnOk result
-            (TakesOn (ConversesLine C.Caller) bytes.now self.old.line.items caller.old (W.taken writer.old)
+            (TakesOn (ConversesLine C.Caller (V.waits vigil.old)) bytes.now self.old.line.items caller.old (W.taken writer.old)
             self.new.line.items caller.new (W.taken writer.new)) }
         ensures err { OnErr result
-            (TakesBrokenOff (ConversesLine C.Caller) (ConversesBrokenOff C.Caller) bytes.now self.old.line.items
-            caller.old (W.taken writer.old) caller.new (W.taken writer.new)) }
+            (TakesBrokenOff (ConversesLine C.Caller (V.waits vigil.old)) (ConversesBrokenOff C.Caller (V.waits vigil.old))
+            bytes.now self.old.line.items caller.old (W.taken writer.old) caller.new (W.taken writer.new)) }
         ensures untold { result ≡ Err MayNot → C.may_tell caller.new ≡ false }
     {
         let mut rest = bytes;
@@ -148,10 +151,10 @@ impl Conversation {
             let piece = &rest[..k];
             let outcome = if self.line.is_empty() {
                 // it came whole, and is answered where it stands
-                take_line(self.alloc, caller, piece)
+                take_line_waiting(self.alloc, caller, vigil, piece)
             } else {
                 keep(&mut self.line, piece)?;
-                take_line(self.alloc, caller, self.line.as_slice())
+                take_line_waiting(self.alloc, caller, vigil, self.line.as_slice())
             };
             self.tell(&*caller, writer, outcome)?;
             self.line.clear();
@@ -164,8 +167,9 @@ impl Conversation {
 
 // One round of `converse`: reads once, and answers the lines that are whole then. Returned is how the conversation
 // ended, or `None` where it goes on.
-fn read_and_answer<C: Caller, R: Source, W: Sink>(
+fn read_and_answer<C: Caller, V: Vigil, R: Source, W: Sink>(
     caller: &mut C,
+    vigil: &mut V,
     reader: &mut R,
     writer: &mut W,
     going: &mut Conversation,
@@ -177,10 +181,11 @@ fn read_and_answer<C: Caller, R: Source, W: Sink>(
     requires writes { W.failed_calls writer.old < 2 ^ 63 }
     ensures short { IfNone result (length going.new.line.items ≤ most_kept) }
     ensures reads { R.calls reader.new ≡ R.calls reader.old + 1 }
+    ensures waits { V.waits vigil.new ≡ V.waits vigil.old }
     ensures step { (start : C) (first : _)
-        → Going (ConversesLine C.Caller) start first
+        → Going (ConversesLine C.Caller (V.waits vigil.old)) start first
         (streams R.Source W.Sink reader.old writer.old) going.old.line.items caller.old
-        → TurnedTo (ConversesLine C.Caller) (ConversesBrokenOff C.Caller) start first
+        → TurnedTo (ConversesLine C.Caller (V.waits vigil.old)) (ConversesBrokenOff C.Caller (V.waits vigil.old)) start first
         (streams R.Source W.Sink reader.old writer.old) (streams R.Source W.Sink reader.new writer.new)
         going.new.line.items caller.new result }
     ensures untold { result ≡ Some Ending.Untold → C.may_tell caller.new ≡ false }
@@ -191,7 +196,7 @@ fn read_and_answer<C: Caller, R: Source, W: Sink>(
     if count == 0 {
         return Some(Ending::Closed);
     }
-    match going.feed(caller, writer, &block[..count]) {
+    match going.feed(caller, vigil, writer, &block[..count]) {
         Ok(()) => None,
         Err(Broken::Write) => Some(Ending::WriteFault),
         Err(Broken::Memory) => Some(Ending::Memory),
@@ -215,8 +220,31 @@ pub fn converse<C: Caller, R: Source, W: Sink>(
 ) -> Ending
     requires reads { R.calls reader.old < 2 ^ 62 }
     requires writes { W.failed_calls writer.old < 2 ^ 62 }
-    ensures ending { EndedAs (ConversesLine C.Caller) (ConversesBrokenOff C.Caller) caller.old
+    ensures ending { EndedAs (ConversesLine C.Caller false) (ConversesBrokenOff C.Caller false) caller.old
         (streams R.Source W.Sink reader.old writer.old) (streams R.Source W.Sink reader.new writer.new)
+        caller.new result }
+    ensures reads { R.calls reader.new ≤ R.calls reader.old + max_reads }
+    ensures untold { result ≡ Ending.Untold → C.may_tell caller.new ≡ false }
+
+    // What no call changes is as before.
+    ensures fixed { (f : C → ℕ)
+        → ((c : C) (x : Asked) (a : Response) (d : C) → C.calls c x a d → f d ≡ f c) → f caller.new ≡ f caller.old }
+{
+    converse_waiting(alloc, caller, &mut NoVigil, reader, writer)
+}
+
+/// The same with a vigil, by which the answers to lines wait that say so.
+pub fn converse_waiting<C: Caller, V: Vigil, R: Source, W: Sink>(
+    alloc: Global,
+    caller: &mut C,
+    vigil: &mut V,
+    reader: &mut R,
+    writer: &mut W,
+) -> Ending
+    requires reads { R.calls reader.old < 2 ^ 62 }
+    requires writes { W.failed_calls writer.old < 2 ^ 62 }
+    ensures ending { EndedAs (ConversesLine C.Caller (V.waits vigil.old)) (ConversesBrokenOff C.Caller (V.waits vigil.old))
+        caller.old (streams R.Source W.Sink reader.old writer.old) (streams R.Source W.Sink reader.new writer.new)
         caller.new result }
     ensures reads { R.calls reader.new ≤ R.calls reader.old + max_reads }
     ensures untold { result ≡ Ending.Untold → C.may_tell caller.new ≡ false }
@@ -236,6 +264,7 @@ pub fn converse<C: Caller, R: Source, W: Sink>(
     for _ in 0..MAX_READS {
         if let Some(ending) = read_and_answer(
             caller,
+            vigil,
             reader,
             writer,
             &mut going,

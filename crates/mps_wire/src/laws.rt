@@ -1,5 +1,5 @@
 //! What holds of the answers to whole scripts and conversations.
-ghost use Rattle.std.specs.Prelude.{◌≡◌, ◌≢◌, ◌++◌, ℕ, List, [], Some, codes, length, slice_get};
+ghost use Rattle.std.specs.Prelude.{◌≡◌, ◌≢◌, ◌++◌, ℕ, Bool, List, [], Some, codes, length, slice_get};
 ghost use Rattle.std.specs.List.{AllByRecursion};
 ghost use Rattle.mps_fidelity.specs.Fidelity.{AreOfOneProtocol};
 ghost use Rattle.mps_line.specs.JournalLines.{CanBeWritten};
@@ -49,27 +49,29 @@ pub fn no_script_meets_a_mismatch()
 }
 
 /// A law: the accepted commands of a conversation are, in order, the entries that its caller made, whether its lines
-/// are answered to their end or the last answer breaks off.
+/// may wait or not, and are answered to their end or the last answer breaks off.
 pub fn a_conversation_makes_its_commands<C: Caller>()
-    ensures whole { (lines : List (List ℕ)) (before : C) (out : List ℕ) (after : C)
-        (a : AnswersLines (ConversesLine C.Caller) lines before out after)
-        → C.made after ≡ C.made before ++ accepted_lines C.Caller lines before out after a }
-    ensures broken_off { (lines : List (List ℕ)) (before : C) (out : List ℕ) (after : C)
-        (a : AnswersBrokenOff (ConversesLine C.Caller) (ConversesBrokenOff C.Caller) lines before out after)
-        → C.made after ≡ C.made before ++ accepted_broken_off C.Caller lines before out after a }
+    ensures whole { (waits : Bool) (lines : List (List ℕ)) (before : C) (out : List ℕ) (after : C)
+        (a : AnswersLines (ConversesLine C.Caller waits) lines before out after)
+        → C.made after ≡ C.made before ++ accepted_lines C.Caller waits lines before out after a }
+    ensures broken_off { (waits : Bool) (lines : List (List ℕ)) (before : C) (out : List ℕ) (after : C)
+        (a : AnswersBrokenOff (ConversesLine C.Caller waits) (ConversesBrokenOff C.Caller waits) lines before out after)
+        → C.made after ≡ C.made before ++ accepted_broken_off C.Caller waits lines before out after a }
 {}
 
 /// A law: where no call of a caller is refused with `Mismatch` in sessions of one protocol, no line that answers a
 /// conversation with this caller is `refused mismatch` there.
 pub fn no_conversation_meets_a_mismatch<C: Caller>()
     ensures whole { (types : C → List LocalType) → MeetsNoMismatch C.Caller types
-        → (asked : List (List ℕ)) (before : C) (out : List ℕ) (after : C) (lines : List (List ℕ)) (rest : List ℕ)
-        → HasNoMismatch C.Caller types before → AnswersLines (ConversesLine C.Caller) asked before out after
+        → (waits : Bool) (asked : List (List ℕ)) (before : C) (out : List ℕ) (after : C) (lines : List (List ℕ))
+        (rest : List ℕ)
+        → HasNoMismatch C.Caller types before → AnswersLines (ConversesLine C.Caller waits) asked before out after
         → IsSplit out lines rest → AllByRecursion (λ line. line ≢ codes "refused mismatch") lines }
     ensures broken_off { (types : C → List LocalType) → MeetsNoMismatch C.Caller types
-        → (asked : List (List ℕ)) (before : C) (out : List ℕ) (after : C) (lines : List (List ℕ)) (rest : List ℕ)
+        → (waits : Bool) (asked : List (List ℕ)) (before : C) (out : List ℕ) (after : C) (lines : List (List ℕ))
+        (rest : List ℕ)
         → HasNoMismatch C.Caller types before
-        → AnswersBrokenOff (ConversesLine C.Caller) (ConversesBrokenOff C.Caller) asked before out after
+        → AnswersBrokenOff (ConversesLine C.Caller waits) (ConversesBrokenOff C.Caller waits) asked before out after
         → IsSplit out lines rest → AllByRecursion (λ line. line ≢ codes "refused mismatch") lines }
 {
     // for the proof alone

@@ -20,6 +20,8 @@ pub enum Order<'a> {
         connections: Option<u64>,
         /// For how many seconds a connection may send nothing. `None` is for ever.
         idle: Option<u64>,
+        /// For how many seconds an answer may wait. `None`: none does.
+        wait: Option<u64>,
         /// How many percent of the entries of its session each role may make.
         share: u64,
         /// Where the sessions are kept, if they are.
@@ -37,6 +39,8 @@ pub enum Order<'a> {
         keep: u64,
         /// For how many seconds a connection may send no line. `None` is for ever.
         idle: Option<u64>,
+        /// For how many seconds an answer may wait. `None`: none does.
+        wait: Option<u64>,
         /// How many percent of the entries of its session each role may make.
         share: u64,
         /// Where the sessions are kept, if they are.

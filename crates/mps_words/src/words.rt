@@ -83,6 +83,12 @@ const IDLE_SECONDS: Range = Range {
     most: 86_400,
 };
 
+// For how many seconds an answer may wait.
+const WAIT_SECONDS: Range = Range {
+    least: 1,
+    most: 3_600,
+};
+
 // The protocol, with which each command begins.
 const FILE: Word = Word {
     name: "FILE",
@@ -195,6 +201,14 @@ const IDLE: Word = Word {
     range: Some(IDLE_SECONDS),
 };
 
+// How long an answer may wait.
+const WAIT: Word = Word {
+    name: "wait",
+    help: "Answers may wait for what others do, where their lines say so, for so many seconds at most, 1 to 3600",
+    given: Given::Sometimes,
+    range: Some(WAIT_SECONDS),
+};
+
 // How many sessions are open at once.
 const OPEN_COUNTS: Range = Range {
     least: 1,
@@ -303,6 +317,7 @@ const FORMS: &[Form] = &[
             SYNC,
             STRICT_SESSIONS,
             IDLE,
+            WAIT,
             SHARE,
         ],
         some_of: &["connections", "endless", "journal"],
@@ -311,7 +326,7 @@ const FORMS: &[Form] = &[
         name: "host",
         about: "Opens each session that somebody joins",
         words: &[FILE],
-        options: &[PORT, JOURNAL, SYNC, KEEP, OPEN, IDLE, SHARE_OF_HOST],
+        options: &[PORT, JOURNAL, SYNC, KEEP, OPEN, IDLE, WAIT, SHARE_OF_HOST],
         some_of: &[],
     },
 ];
@@ -444,6 +459,7 @@ fn serve_in<'a>(file: &'a str, found: &ArgMatches<'a>) -> Option<Order<'a>>
     let first = bound_in(found, "first", FIRST_NUMBERS)?.unwrap_or(1);
     let connections = bound_in(found, "connections", CONNECTION_COUNTS)?;
     let idle = bound_in(found, "idle", IDLE_SECONDS)?;
+    let wait = bound_in(found, "wait", WAIT_SECONDS)?;
     let share = bound_in(found, "share", SHARES)?.unwrap_or(SERVED_SHARE);
     let journal = journal_in(found, found.get_flag("strict"));
     let verbose = found.get_flag(VERBOSE);
@@ -454,6 +470,7 @@ fn serve_in<'a>(file: &'a str, found: &ArgMatches<'a>) -> Option<Order<'a>>
         first,
         connections,
         idle,
+        wait,
         share,
         journal,
         verbose,
@@ -468,6 +485,7 @@ fn host_in<'a>(file: &'a str, found: &ArgMatches<'a>) -> Option<Order<'a>>
     let open = bound_in(found, "open", OPEN_COUNTS)?.unwrap_or(OPEN_COUNT);
     let keep = bound_in(found, "keep", KEEP_SECONDS)?.unwrap_or(KEEP_TIME);
     let idle = bound_in(found, "idle", IDLE_SECONDS)?;
+    let wait = bound_in(found, "wait", WAIT_SECONDS)?;
     let share = bound_in(found, "share", SHARES)?.unwrap_or(HOSTED_SHARE);
     let journal = journal_in(found, false);
     let verbose = found.get_flag(VERBOSE);
@@ -477,6 +495,7 @@ fn host_in<'a>(file: &'a str, found: &ArgMatches<'a>) -> Option<Order<'a>>
         open,
         keep,
         idle,
+        wait,
         share,
         journal,
         verbose,

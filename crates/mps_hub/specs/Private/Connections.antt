@@ -1,5 +1,5 @@
 -- What a connection comes to, part by part.
-use Rattle.std.specs.Prelude.{◌≡◌, ◌≢◌, ◌⊎◌}
+use Rattle.std.specs.Prelude.{◌≡◌, ◌≢◌, ◌⊎◌, Bool}
 use Rattle.mps_dev.specs.declared.traits.Sink.{Ghosts as SinkGhosts}
 use Rattle.mps_dev.specs.declared.traits.Source.{Ghosts as SourceGhosts}
 use Rattle.mps_line.specs.Codes.{code_of}
@@ -19,13 +19,13 @@ IsAnsweredFirst sink old new reply Memory = new ≡ old
 IsAnsweredFirst sink old new reply Unrecorded = ⊥
 
 -- what a caller that got its pass came to, once it was told so with this reply
-module _ {C R W : Type 0} (caller : Ghosts C) (source : SourceGhosts R) (sink : SinkGhosts W) (joined : Reply)
+module _ {C R W : Type 0} (caller : Ghosts C) (waits : Bool) (source : SourceGhosts R) (sink : SinkGhosts W) (joined : Reply)
     (before : C) (reader : R) (writer : W) (after : C) (reader' : R) (writer' : W) where
   -- by how the connection ended
   abbrev pub CameOfJoining : Attended → Type 0
   CameOfJoining NoLine = ⊥
   CameOfJoining TurnedAway = SendingBrokeOff sink writer writer' joined × (reader' ≡ reader)
   CameOfJoining (Conversed ending) =
-      WasConversation caller source sink joined before reader writer after reader' writer' ending
+      WasConversation caller waits source sink joined before reader writer after reader' writer' ending
   CameOfJoining Memory = (writer' ≡ writer) × (reader' ≡ reader)
   CameOfJoining Unrecorded = (writer' ≡ writer) × (reader' ≡ reader)

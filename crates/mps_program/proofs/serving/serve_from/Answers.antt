@@ -7,7 +7,7 @@ use Rattle.mps_program.proofs.Causes.{server_fails, session_fails, told}
 use Rattle.mps_program.proofs.serving.serve_from.Goals as goal
 
 pub returns : goal.returns
-returns g c = record { fault = server_fails c.serve_to.result c.args.file.now _ _ _ _ _ _ c.in_ok-rooms.ensures.keepers (c.sharing-hub.ensures.first ∙ c.in_ok-of_restored.ensures.first) (ap (λ (l : List Opened). length l) c.sharing-hub.ensures.cells ∙ c.in_ok-of_restored.ensures.cells.count ∙ c.in_ok-rooms.ensures.rooms) c.serve_to.ensures.fault }
+returns g c = record { fault = server_fails c.serve_to.result c.args.file.now _ _ _ _ _ _ c.in_ok-rooms.ensures.keepers (c.waiting-hub.ensures.first ∙ c.sharing.ensures.first ∙ c.in_ok-of_restored.ensures.first) (ap (λ (l : List Opened). length l) (c.waiting-hub.ensures.cells ∙ c.sharing.ensures.cells) ∙ c.in_ok-of_restored.ensures.cells.count ∙ c.in_ok-rooms.ensures.rooms) c.serve_to.ensures.fault }
 
 -- each session was refused
 pub returns-in_err-tell_refused : goal.returns-in_err-tell_refused

@@ -4,9 +4,9 @@ use Rattle.mps_wire.proofs.Faithful.{conversation_fits, conversation_broken_fits
 use Rattle.mps_wire.proofs.laws.no_conversation_meets_a_mismatch.Goals as goal
 
 pub returns-clause-whole : goal.returns-clause-whole
-returns-clause-whole g c types none asked before out after lines rest free a split =
-    conversation_fits c.one_reply_line.ensures.reply g.C.Caller types none asked lines before after out out [] rest free a (sym (append-nil out)) split
+returns-clause-whole g c types none waits asked before out after lines rest free a split =
+    conversation_fits c.one_reply_line.ensures.reply g.C.Caller types none waits asked lines before after out out [] rest free a (sym (append-nil out)) split
 
 pub returns-clause-broken_off : goal.returns-clause-broken_off
-returns-clause-broken_off g c types none asked before out after lines rest free a split =
-    conversation_broken_fits c.one_reply_line.ensures.reply g.C.Caller types none asked lines before after out rest free a split
+returns-clause-broken_off g c types none waits asked before out after lines rest free a split =
+    conversation_broken_fits c.one_reply_line.ensures.reply g.C.Caller types none waits asked lines before after out rest free a split

@@ -9,7 +9,8 @@ abbrev pub invariant-loop-k : goal.invariant-loop-k
 invariant-loop-k g l = record {
   writes : g.W.Sink.failed_calls l.writer ≡ g.W.Sink.failed_calls l.fn.writer;
   short : length l.self.line.items ≤ most_kept;
-  taking : Taking (ConversesLine g.C.Caller) l.fn.self.line.items l.fn.caller (g.W.Sink.taken l.fn.writer) l.bytes l.rest l.self.line.items l.caller (g.W.Sink.taken l.writer);
+  waits : g.V.Vigil.waits l.vigil ≡ g.V.Vigil.waits l.fn.vigil;
+  taking : Taking (ConversesLine g.C.Caller (g.V.Vigil.waits l.fn.vigil)) l.fn.self.line.items l.fn.caller (g.W.Sink.taken l.fn.writer) l.bytes l.rest l.self.line.items l.caller (g.W.Sink.taken l.writer);
 }
 
 abbrev pub decreases-loop-k : goal.decreases-loop-k

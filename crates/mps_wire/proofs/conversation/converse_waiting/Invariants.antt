@@ -1,11 +1,11 @@
--- In each turn of the loop of `converse` the whole lines read so far were answered, and each read is counted.
+-- In each turn of the loop of `converse_waiting` the whole lines read so far were answered, and each read is counted.
 use Rattle.std.proofs.Common.{◌≡◌, ◌+◌, ◌≤◌, length}
 use Rattle.mps_lines.specs.Lines.{most_kept}
 use Rattle.mps_wire.specs.Runs.{Going, GaveAtLeast}
 use Rattle.mps_wire.specs.Streams.{Counts, all_went_well, streams}
 use Rattle.mps_wire.specs.Conversations.{ConversesLine}
 use Rattle.mps_wire.specs.declared.conversation.TheConstants.{CONVERSATION_BLOCK}
-use Rattle.mps_wire.proofs.conversation.converse.Given as goal
+use Rattle.mps_wire.proofs.conversation.converse_waiting.Given as goal
 
 abbrev pub invariant-loop : goal.invariant-loop
 invariant-loop g l =
@@ -17,5 +17,6 @@ invariant-loop g l =
       reads : now.reads ≡ first.reads + l.counter;
       counts : Counts first now all_went_well;
       gave : GaveAtLeast l.counter first now;
-      going : Going (ConversesLine g.C.Caller) l.fn.caller first now l.going.line.items l.caller;
+      waits : g.V.Vigil.waits l.vigil ≡ g.V.Vigil.waits l.fn.vigil;
+      going : Going (ConversesLine g.C.Caller (g.V.Vigil.waits l.fn.vigil)) l.fn.caller first now l.going.line.items l.caller;
     }
