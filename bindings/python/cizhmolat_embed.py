@@ -210,6 +210,8 @@ class Role(cizhmolat.Role):
     def close(self) -> None:
         """Does nothing: the room is closed by itself."""
 
+    _drop = close
+
     def settle(self) -> None:
         """Does nothing: no command is under way."""
 

@@ -465,6 +465,11 @@ class Connection:
         with contextlib.suppress(OSError):
             self._socket.close()
 
+    def shut(self) -> None:
+        """Breaks the connection, of which whoever waits for it hears."""
+        with contextlib.suppress(OSError):
+            self._socket.shutdown(socket.SHUT_RDWR)
+
     def is_over(self) -> bool:
         """Whether the other end was seen to break off, or something came that nobody asked for."""
         try:
@@ -550,6 +555,7 @@ class Numbers:
 class Calls:
     """The calls of a role. Each stops where it has to wait, and whoever runs it goes on with it: a Role here, a Waiting, or a
     Role of cizhmolat_asyncio."""
+    _half: tuple[str, str, News] | None = None  # a command that is being put back, its answer, and the news after it
 
     def __init__(self, session: int, role: str, port: int, *, host: str = "127.0.0.1",
                  numbers: str | os.PathLike[str] | None = None, timeout: float = 30, patience: float = 10) -> None:
@@ -563,6 +569,7 @@ class Calls:
         self._newest = self._numbers.newest  # one more than in the file, while `resumed` has the command that is there
         self._heard = self._numbers.heard  # in the file from the next command on
         self._is_settled = False  # whether the newest number is known, and is the session's as long as the connection lasts
+        self._is_given_up = False  # whether `close` came meanwhile
         self._is_busy = False  # while a call goes on, whose answer no other one may take
 
     @property
@@ -576,7 +583,16 @@ class Calls:
         return self._newest
 
     def close(self) -> None:
-        """Ends the connection, and so frees the role. The next command joins again."""
+        """Ends the connection, and so frees the role. The next command joins again. A call that goes on, in a Waiting or a task,
+        ends with Unreachable."""
+        if self._is_busy:  # its socket isn't closed under what watches it, which another one with that number would be taken for
+            self._is_given_up = True
+            if self._connection is not None:
+                self._connection.shut()
+        else:
+            self._drop()
+
+    def _drop(self) -> None:
         if self._connection is not None:
             self._connection.close()
         self._connection, self._is_settled = None, False
@@ -589,7 +605,7 @@ class Calls:
             if is_new:
                 await self._news(0, 0)  # what went before is told here
         except BaseException:
-            self.close()
+            self._drop()
             raise
 
     # --- Steps ---
@@ -635,7 +651,7 @@ class Calls:
         told, shown = await self._ask(question, math.inf, "show")
         entries = self._read_news(question, told).entries  # what goes after this may be shown as gone, and is told once more
         found = self._read_standing(self._read_shown(shown))
-        self._heard = entries
+        self._heard, self._half = entries, None  # what stands is told here
         return found
 
     def _read_news(self, question: str, answer: str) -> News:
@@ -648,7 +664,7 @@ class Calls:
         try:
             return dict(json.loads(text))
         except ValueError:
-            self.close()
+            self._drop()
             raise NotUnderstood(text) from None
 
     def _read_standing(self, shown: dict[str, Any]) -> Standing:
@@ -659,7 +675,7 @@ class Calls:
                      for number, role, act, *parts in shown["history"] if role == self.role]
             return Standing(own["expects"], own["past"], dict(own["store"]), steps)
         except (LookupError, StopIteration, TypeError, ValueError):
-            self.close()
+            self._drop()
             raise NotUnderstood(f"{shown}, to show") from None
 
     # --- Lines ---
@@ -681,7 +697,7 @@ class Calls:
         command = plain(command)
         self._check_free()
         if self._connection is not None and self._connection.is_over():
-            self.close()
+            self._drop()
         if command.split(" ")[0] in QUESTIONS:
             return await self._exchange([command, *questions], limit, wait)
         if not self._is_settled:
@@ -711,8 +727,14 @@ class Calls:
             began = asked if waits else answered  # of the pause: also one that the server made
             if waits and answered - asked >= LONGEST_PAUSE:
                 pause = SHORTEST_PAUSE
-            with self._alone():
+            try:
+                self._is_busy, self._is_given_up = True, False
                 await stop(Need(None, 0, min(began + pause, until)))
+            finally:
+                self._is_busy = False
+            if self._is_given_up:
+                self._drop()
+                raise Unreachable("the role was closed")
             pause = min(2 * pause, LONGEST_PAUSE)
 
     async def _read(self, command: str, form: str) -> re.Match[str]:
@@ -723,12 +745,13 @@ class Calls:
         try:
             return read(command, answer, form)
         except NotUnderstood:
-            self.close()
+            self._drop()
             raise
 
     async def _told(self, command: str, form: str, timeout: float = 0) -> re.Match[str]:
         """The parts of the answer to a command, after which no step was gone of which the role hadn't heard."""
         until = time.monotonic() + timeout
+        await self._put_back_at_last(until)
         answer, news = await self._poll(command, until)
         if news.gone:
             await self._put_back(command, answer, news, until)
@@ -738,6 +761,7 @@ class Calls:
     async def _told_for_good(self, command: str, form: str) -> re.Match[str]:
         """The same for a command that no undo puts back: it isn't given where steps are gone, unless it was run already and waits
         to be given again."""
+        await self._put_back_at_last(time.monotonic())
         if not self._is_settled:
             await self._settle(math.inf)
         if self.resumed is None or self.resumed.command != command:
@@ -753,8 +777,14 @@ class Calls:
         answer, told = await self._in_time(until, until + self.timeout, command, question)
         return answer, self._read_news(question, told)
 
+    async def _put_back_at_last(self, until: float) -> None:
+        """Puts back what an exception of a signal's handler, or the end of a task, kept from it."""
+        if self._half is not None:
+            await self._put_back(*self._half, until)
+
     async def _put_back(self, command: str, answer: str, news: News, until: float) -> NoReturn:
         """Raises TakenBack. What the command did may have been meant for another place: an undo puts it back, where one can."""
+        self._half = command, answer, news
         entries, gone = news
         stands = answer if answer.startswith(("done", "undone")) else None
         cause: Error | None = None
@@ -770,7 +800,7 @@ class Calls:
                 stands = None
             except Error as error:
                 cause = error
-        self._heard = entries
+        self._heard, self._half = entries, None
         raise TakenBack(gone, command, stands) from cause
 
     # --- Numbers ---
@@ -804,40 +834,38 @@ class Calls:
         if self._is_busy:
             raise ValueError(f"another call of {self.role} goes on")
 
-    @contextlib.contextmanager
-    def _alone(self) -> Iterator[None]:
-        """Lets no other call begin meanwhile."""
-        self._check_free()
-        self._is_busy = True
-        try:
-            yield
-        finally:
-            self._is_busy = False
-
     async def _exchange(self, lines: Sequence[str], limit: float, wait: float = 0) -> list[str]:
         """The answers to these lines, the first of which may wait so long at the server. Where the connection breaks they are sent
         again. Nothing waits beyond the limit."""
-        with self._alone():
+        self._check_free()
+        try:
+            self._is_busy, self._is_given_up = True, False
+            if self._connection is None:
+                await self._patiently(self._join, limit)
             try:
-                if self._connection is None:
-                    await self._patiently(self._join, limit)
-                try:
-                    return await self._talk_in_time(lines, limit, wait)
-                except OSError:
-                    self.close()
-                return await self._patiently(lambda until: self._talk(lines, until), limit)
-            except BaseException:  # also one of a signal's handler: the answer that may still come is no other line's
-                self.close()
-                raise
+                answers = await self._talk_in_time(lines, limit, wait)
+            except OSError:
+                self._drop()
+                answers = await self._patiently(lambda until: self._talk(lines, until), limit)
+            if self._is_given_up:
+                raise Unreachable("the role was closed")
+            return answers
+        except BaseException:
+            self._drop()
+            raise
+        finally:
+            self._is_busy = False
 
     async def _patiently(self, act: Callable[[float], Awaitable[Made]], limit: float) -> Made:
         """What the act comes to, which is told until when it may wait, and is tried again until patience runs out."""
         end = min(time.monotonic() + self.patience, limit)
         for pause in pauses(0.01, LONGEST_PAUSE):
+            if self._is_given_up:
+                raise Unreachable("the role was closed")
             try:
                 return await act(min(time.monotonic() + self.timeout, end if self.patience else limit))
             except (OSError, *PASSING) as error:
-                self.close()
+                self._drop()
                 if time.monotonic() + pause > end:
                     if isinstance(error, PASSING):
                         raise
@@ -989,7 +1017,7 @@ class Outcome(NamedTuple):
 
 class Stopped:
     """A call of a role, and what it needs to go on."""
-    need: Need
+    need = Need(None, 0, math.inf)
 
     def __init__(self, role: Role, call: Coroutine[Need, bool | None, Any]) -> None:
         self.role, self.call = role, call
@@ -1044,13 +1072,27 @@ class Waiting:
         """The outcome of the next wait that ends; None where none does in so many seconds, or none goes on."""
         until = time.monotonic() + timeout
         while not self._ended and self._stopped:
-            self._turn(until)
+            try:
+                self._turn(until)
+            except BaseException:  # also one of a signal's handler
+                self.close()
+                self._selector = selectors.DefaultSelector()
+                raise
             if not self._ended and time.monotonic() >= until:
                 return None
         return self._ended.popleft() if self._ended else None
 
     def _begin(self, role: Role, call: Coroutine[Any, Any, Any]) -> None:
-        self._run(Stopped(role, call), None)
+        it = Stopped(role, call)
+        try:
+            self._stopped.add(it)
+            self._run(it, None)
+        except BaseException:  # also one of a signal's handler
+            with contextlib.suppress(KeyError, ValueError):
+                self._selector.unregister(it.need.stream)
+            call.close()
+            self._stopped.discard(it)
+            raise
 
     def _turn(self, until: float) -> None:
         """Waits until calls can go on, and goes on with them."""
@@ -1062,20 +1104,20 @@ class Waiting:
                 self._go_on(it, False)
 
     def _go_on(self, it: Stopped, is_ready: bool) -> None:
-        self._stopped.remove(it)
         if it.need.stream is not None:
             self._selector.unregister(it.need.stream)
         self._run(it, is_ready)
 
     def _run(self, it: Stopped, is_ready: bool | None) -> None:
-        """Runs a call until it stops again, or ends."""
+        """Runs a call until it stops again, or ends. Until then it is among those that stopped, so that each exception closes it."""
         try:
             it.need = it.call.send(is_ready)
         except StopIteration as end:
             self._ended.append(Outcome(it.role, end.value))
+            self._stopped.discard(it)
         except Error as error:
             self._ended.append(Outcome(it.role, None, error))
+            self._stopped.discard(it)
         else:
-            self._stopped.add(it)
             if it.need.stream is not None:
                 self._selector.register(it.need.stream, it.need.event, it)
