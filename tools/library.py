@@ -1,8 +1,10 @@
-"""library: makes libcizhmolat.a and libcizhmolat.so of the exports of mps_c, and puts them where they are wanted.
+"""library: makes libcizhmolat.a and libcizhmolat.so of the exports of mps_c, and puts them where they are wanted, with their header and
+what CMake and pkg-config find them by.
 
-Both have the few functions of the kit's C code by which memory is asked for, and need nothing but the C library. Nothing
+Both have the few functions of the kit's C code by which memory and files are asked for, and need nothing but the C library. Nothing
 but the exports can be named by who links them. The kit has the linker; objcopy is one of the binutils."""
 import os
+import re
 import shutil
 import subprocess
 import tempfile
@@ -12,7 +14,9 @@ from sources import HOME
 
 CRATE = "mps_c"
 FILES = ("libcizhmolat.a", "libcizhmolat.so")
-HEADER = os.path.join(HOME, "bindings", "c", "cizhmolat.h")
+FOR_C = os.path.join(HOME, "bindings", "c")
+BESIDE = ("cizhmolat.h", "FindCizhmolat.cmake")  # of that folder, beside the library
+PACKAGE = "cizhmolat.pc"  # what pkg-config reads, made from the file with .in behind its name
 
 
 class NotMade(Exception):
@@ -61,7 +65,7 @@ def link(kit, code, folder):
             file.writelines(f"{name}\n" for name in exports())
         with open(versions, "w", encoding="ascii") as file:
             file.write("{ global: " + " ".join(f"{name};" for name in exports()) + " local: *; };\n")
-        run(f"{tools}/ld.lld", "-r", "-o", f"{whole}.all", "--whole-archive", code, "--no-whole-archive", f"{kit}/c/liblibc_c.a")
+        run(f"{tools}/ld.lld", "-r", "-o", f"{whole}.all", "--whole-archive", code, "--no-whole-archive", f"{kit}/c/liblibc_c.a", f"{kit}/c/libos_c.a")
         run("objcopy", f"--keep-global-symbols={names}", f"{whole}.all", whole)
         run(f"{tools}/llvm-ar", "rcs", archive, whole)
         run(f"{tools}/ld.lld", "-shared", "-soname", FILES[1], "--version-script", versions, "--gc-sections", "--no-undefined",
@@ -79,12 +83,31 @@ def run(*words):
         raise NotMade(f"{os.path.basename(words[0])} ended with {ran.returncode}: {ran.stdout[:400]}")
 
 
+def version():
+    """The library's version, that of the crate for Rust."""
+    with open(os.path.join(HOME, "bindings", "rust", "Cargo.toml"), encoding="utf-8") as file:
+        return re.search('(?m)^version = "(.*)"$', file.read())[1]
+
+
+def package(folder):
+    """What pkg-config reads of the library in that folder."""
+    with open(os.path.join(FOR_C, f"{PACKAGE}.in"), encoding="utf-8") as file:
+        text = file.read()
+    # where a `$` isn't doubled a variable follows it
+    return text.replace("@PREFIX@", os.path.abspath(folder).replace("$", "$$")).replace("@VERSION@", version())
+
+
 def put(made, folder):
-    """Copies the library and its header into a folder, which is made if need be, and says where they then stand."""
+    """Copies the library into a folder, which is made if need be, with its header and what CMake and pkg-config find it by, and says
+    where they then stand."""
     os.makedirs(folder, exist_ok=True)
     places = []
-    for file in (*(os.path.join(made, name) for name in FILES), HEADER):
-        there = os.path.join(folder, os.path.basename(file))
-        checked_build.put(file, there)
-        places.append(there)
+    with tempfile.TemporaryDirectory(prefix="mps-package-") as work:
+        described = os.path.join(work, PACKAGE)
+        with open(described, "w", encoding="utf-8") as file:
+            file.write(package(folder))
+        for file in (*(os.path.join(made, name) for name in FILES), *(os.path.join(FOR_C, name) for name in BESIDE), described):
+            there = os.path.join(folder, os.path.basename(file))
+            checked_build.put(file, there)
+            places.append(there)
     return places

@@ -24,7 +24,8 @@ mps which [--path]             tells which program runs, and of which sources; w
 mps install DIR                copies the program that runs to DIR/mps_tool, where it needs nothing of this repository;
                                DIR is made if need be
 mps library DIR                copies the library for programs in C, Rust and Python to DIR, which is made if need be:
-                               libcizhmolat.a, libcizhmolat.so and cizhmolat.h. docs/EMBEDDING.md says how to call it
+                               libcizhmolat.a, libcizhmolat.so and cizhmolat.h, and what CMake and pkg-config find them by,
+                               FindCizhmolat.cmake and cizhmolat.pc. docs/EMBEDDING.md says how to call it
 mps --version                  the program's version
 mps --help                     this; mps run --help and the like say what the program's own orders take
 

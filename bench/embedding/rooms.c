@@ -3,7 +3,8 @@
    lines    nanoseconds of an accepted line, of a refused one, and of an accepted one by mps_say
    memory   bytes of an idle room, and nanoseconds to open and close it, of 10,000 that are open at once; bytes of a room with
             one entry
-   stack    bytes of the stack that opening and closing a room of the deepest protocol takes */
+   stack    bytes of the stack that opening and closing a room of the deepest protocol takes; with a path behind it, of one that
+            the file there keeps, with MPS_SYNC */
 #define _GNU_SOURCE
 #include <inttypes.h>
 #include <malloc.h>
@@ -21,6 +22,7 @@ enum { LINES = 40000, ROUNDS = 40, ROOMS = 10000, STACK = 1 << 22, LEVELS = 63 }
 static const char *const loop = "roles a b c ; rec X . a -> b : int . X";
 static const char *const relay = "roles a b c ; a -> b : int . b -> c : int . end";
 static mps_room rooms[ROOMS];
+static const char *file; /* of the rooms, or NULL */
 
 static double now(void) {
     struct timespec time;
@@ -38,7 +40,8 @@ static void must(bool holds) {
 static void open_room(mps_room *room, const char *protocol) {
     uint32_t fault;
     uint64_t place;
-    must(mps_open_string(protocol, room, &fault, &place));
+    if (file == NULL) must(mps_open_string(protocol, room, &fault, &place));
+    else must(mps_open_file_string(protocol, file, 1, MPS_SYNC, room, &fault, &place));
 }
 
 static size_t line(mps_room *room, const char *role, const char *command, size_t length) {
@@ -133,10 +136,11 @@ int main(int count, char **words) {
         measure(said);
     } else if (count == 2 && strcmp(words[1], "memory") == 0) {
         memory();
-    } else if (count == 2 && strcmp(words[1], "stack") == 0) {
+    } else if ((count == 2 || count == 3) && strcmp(words[1], "stack") == 0) {
+        file = words[2]; /* NULL where there is none */
         stack();
     } else {
-        fputs("usage: rooms lines|memory|stack\n", stderr);
+        fputs("usage: rooms lines|memory|stack [FILE]\n", stderr);
         return 2;
     }
     return 0;

@@ -15,17 +15,29 @@ methods, which raise the same exceptions. So a program that was written for a se
     session = Room(protocol)
 
 in place of `from cizhmolat import Role` and `session = 1`. What speaks of the connection (`port`, `host`, `numbers`, `timeout`,
-`patience`) may stand there still, and does nothing: an answer can't be lost. Where TakenBack is raised the command wasn't run,
-a commit neither, since nobody else acts between the news and the command.
+`patience`) may stand there still, and does nothing: no answer is lost while the process lives. Where TakenBack is raised the
+command wasn't run, a commit neither, since nobody else acts between the news and the command.
+
+A room with a file is as the file leaves it, and each command that is accepted from then on is in the file before its answer is
+told:
+
+    with Room(protocol, file="kept/1.journal") as room:
+        room.ask("a", "1 send b 5")
+
+A line with a number may be given again by a program that goes on after a crash: it counts once. A Role gives its lines without
+numbers, so after a crash its program asks `newest`, `expects` or `standing` where it stands.
 
 A room has one call at a time, by a lock, so its Roles may be used in threads, each Role in one at a time. A receipt and a pick
 wait for what other threads send, as at a server: NothingQueued is raised when nothing has come in `timeout` seconds.
 
 This file stands beside cizhmolat.py. The library is libcizhmolat.so, which `./mps library DIR` makes, of the environment's
-CIZHMOLAT_DIR, of the folder of this file, or where the system looks for libraries."""
+CIZHMOLAT_DIR, of the folder of this file, or where the system looks for libraries. `pip install` of this folder puts all three
+into one."""
 from __future__ import annotations
 
+import collections
 import ctypes
+import json
 import os
 import threading
 import time
@@ -33,14 +45,17 @@ from pathlib import Path
 from typing import Any
 
 import cizhmolat
-from cizhmolat import NOTHING_YET, Error, News, count, name
+from cizhmolat import NOTHING_YET, Error, News, Refused, Value, count, name
 
-__all__ = ["BadProtocol", "NoMemory", "Role", "Room"]
+__all__ = ["BadFile", "BadLine", "BadProtocol", "FileInUse", "NoMemory", "NotStored", "Role", "Room", "UnusableFile"]
 
 NO_MEMORY = ctypes.c_size_t(-1).value
+SYNC = 1
 TEXTS = ("toolong", "word", "unexpected", "toomanynodes", "toodeep", "trailing")
 PROTOCOLS = ("rolecount", "doublerole", "toomanynodes", "toodeep", "unknownrole", "selfmessage", "doublelabel",
              "toomanybranches", "nobranches", "unbound", "shadowed", "unguarded")
+ELSEWHERE, FILE = 64, 65
+LINES = ("unreadable", "refused", "changed")  # the faults of a line of a file, from 66 on
 
 
 class BadProtocol(Error):
@@ -68,6 +83,61 @@ class BadProtocol(Error):
         return f"projection of role number {self.number - 48}, choice {self.place}"
 
 
+class BadFile(Error):
+    """The file gives no room.
+
+    word   the kind of its fault, as cizhmolat.h names it: `elsewhere`, `file`, `unreadable`, `refused` or `changed`
+    path   the file's path"""
+    word = ""
+
+    def __init__(self, path: str, *more: object) -> None:
+        super().__init__(path, *more)  # of which pickle and copy make it again
+        self.path = path
+
+
+class FileInUse(BadFile):
+    """Another room, or another process, has the file."""
+    word = "elsewhere"
+
+    def __str__(self) -> str:
+        return f"another room, or another process, has {self.path}"
+
+
+class UnusableFile(BadFile, OSError):
+    """The system refuses something of the file; or it is no plain file, or a link; or the session's number isn't 1 to 2^63. `errno` is
+    the system's number, or None where there is none."""
+    word = "file"
+
+    def __init__(self, path: str, errno: int | None) -> None:
+        super().__init__(path, errno)
+        self.errno, self.filename = errno, path
+        self.strerror = os.strerror(errno) if errno else "the system doesn't say why"
+
+    def __reduce__(self) -> tuple[type[UnusableFile], tuple[str, int | None]]:  # that of an OSError hands on its filename too
+        return type(self), (self.path, self.errno)
+
+    def __str__(self) -> str:
+        return f"{self.path} can't be used: {self.strerror}"
+
+
+class BadLine(BadFile):
+    """A line of the file isn't one of this room's journal, and the file stays as it is. Its number, from 1, is `line`. As `word`
+    it is `unreadable`, as it spells no command; `refused`, as its command isn't accepted; or `changed`, as it isn't as it was
+    written, or is of another session or protocol."""
+
+    def __init__(self, path: str, word: str, line: int) -> None:
+        super().__init__(path, word, line)
+        self.word, self.line = word, line
+
+    def __str__(self) -> str:
+        return f"line {self.line} of {self.path} is {self.word}"
+
+
+class NotStored(Error):
+    """The disk didn't store the room's file. The room answers `refused journal` to each line from then on, and the file stays locked
+    until this process ends."""
+
+
 class NoMemory(Error):
     """Memory ran out: no room could be opened, or there was none for the text of an answer. In the second case the line was
     run, and `Room.answer` gives its answer later."""
@@ -86,7 +156,12 @@ def library() -> ctypes.CDLL:
     size, text, place = ctypes.c_size_t, ctypes.c_char_p, ctypes.c_void_p
     calls: tuple[tuple[str, Any, list[Any]], ...] = (
         ("mps_open", ctypes.c_bool, [text, size, place, ctypes.POINTER(ctypes.c_uint32), ctypes.POINTER(ctypes.c_uint64)]),
+        ("mps_open_file", ctypes.c_bool, [text, size, text, size, ctypes.c_uint64, ctypes.c_uint32, place,
+                                          ctypes.POINTER(ctypes.c_uint32), ctypes.POINTER(ctypes.c_uint64)]),
+        ("mps_sync", ctypes.c_bool, [place]),
         ("mps_line", size, [place, text, size, text, size, place, size]), ("mps_answer", size, [place, place, size]),
+        ("mps_would", size, [place, text, size, text, size, place, size]), ("mps_expects", size, [place, text, size, place, size]),
+        ("mps_slot", size, [place, text, size, text, size, place, size]),
         ("mps_entries", ctypes.c_uint64, [place]), ("mps_entry", size, [place, ctypes.c_uint64, place, size]),
         ("mps_close_at", None, [place]))
     for call, result, takes in calls:
@@ -97,23 +172,53 @@ def library() -> ctypes.CDLL:
 LIBRARY = library()
 
 
+def coded(text: str | bytes) -> bytes:
+    """The bytes of a text."""
+    return text.encode() if isinstance(text, str) else text
+
+
+def room_fault(number: int, place: int, file: Any) -> Error:
+    """Why there is no room, by the number and the place that the library tells."""
+    if number == 1:
+        return NoMemory("there is no memory for a room")
+    if number < ELSEWHERE:
+        return BadProtocol(number, place)
+    path = os.fsdecode(file)
+    if number == ELSEWHERE:
+        return FileInUse(path)
+    return UnusableFile(path, place or None) if number == FILE else BadLine(path, LINES[number - FILE - 1], place)
+
+
 class Room:
     """A room with a new session of the protocol that the text spells. BadProtocol is raised where there is none.
 
-    It is closed by `close`, at the end of a `with`, or when it is let go of. It can't be called after that."""
+    file      a path: the room is as the file there leaves it, and keeps what is accepted in it. The file is made where there
+              is none, and locked as long as the room is open. BadFile is raised where it gives no room
+    session   of which session the file is, whose number goes into its seals: a server has session K in K.journal of its folder
+    sync      whether the disk has stored each accepted command before its answer is told. Without it answers are safe from a
+              crash of the process as they are told, and from one of the machine only after `sync()`
 
-    def __init__(self, text: str | bytes) -> None:
-        text = text.encode() if isinstance(text, str) else text
+    It is closed by `close`, at the end of a `with`, or when it is let go of. It can't be called after that. A fork of the process
+    can't call a room with a file, and keeps the file locked until it ends, or lets go of the room."""
+
+    def __init__(self, text: str | bytes, file: str | bytes | os.PathLike[str] | os.PathLike[bytes] | None = None, *,
+                 session: int = 1, sync: bool = False) -> None:
+        text = coded(text)
         fault, place = ctypes.c_uint32(), ctypes.c_uint64()
         self._handle = Handle()
         self._at = ctypes.addressof(self._handle)
         self._make_room(1024)
         self._turn = threading.Condition()  # whose lock each call takes, and which is told of each accepted command
-        self._accepted: dict[str, int] = {}  # of each role, how many of its commands were accepted that change the session
-        if not LIBRARY.mps_open(text, len(text), self._at, fault, place):
-            if fault.value == 1:
-                raise NoMemory("there is no memory for a room")
-            raise BadProtocol(fault.value, place.value)
+        self._counted = 0  # entries, of which each role has so many:
+        self._accepted: collections.Counter[str] = collections.Counter()
+        self._process = None if file is None else os.getpid()  # to which the file belongs
+        if file is None:
+            is_open = LIBRARY.mps_open(text, len(text), self._at, fault, place)
+        else:
+            path, flags = os.fsencode(file), SYNC if sync else 0
+            is_open = LIBRARY.mps_open_file(text, len(text), path, len(path), count(session), flags, self._at, fault, place)
+        if not is_open:
+            raise room_fault(fault.value, place.value, file)
 
     def __enter__(self) -> Room:
         return self
@@ -135,8 +240,7 @@ class Room:
 
     def ask(self, role: str | bytes, line: str | bytes) -> str:
         """The answer to a line, which is run as a command of the role of that name. A line may have a number in front."""
-        role = role.encode() if isinstance(role, str) else role
-        line = line.encode() if isinstance(line, str) else line
+        role, line = coded(role), coded(line)
         with self._turn:
             self._check()
             answer = self._whole(LIBRARY.mps_line(self._at, role, len(role), line, len(line), self._out, self._capacity))
@@ -150,6 +254,46 @@ class Room:
             self._check()
             return self._whole(LIBRARY.mps_answer(self._at, self._out, self._capacity))
 
+    def sync(self) -> None:
+        """Has the disk store all that was answered so far, in one sync for a batch of lines. Nothing happens where the room has
+        no file."""
+        with self._turn:
+            self._check()
+            if not LIBRARY.mps_sync(self._at):
+                raise NotStored("the disk didn't store the room's file")
+
+    def would(self, role: str | bytes, line: str | bytes) -> Refused | None:
+        """None where this line would be accepted, if it was given now; else the exception that a Role would raise. Nothing changes.
+        The exception is given and not raised, since nothing was refused; and is no text, since its class and its `step` say how to
+        go on, as after a command that was refused. Lack of memory for what an accepted command would do isn't foreseen."""
+        role, line = coded(role), coded(line)
+        answer = self._told_of(LIBRARY.mps_would, role, len(role), line, len(line))
+        try:
+            cizhmolat.read(line.decode("ascii", "backslashreplace"), answer, "accepted")
+        except Refused as refused:
+            return refused.with_traceback(None)
+        return None
+
+    def expects(self, role: str | bytes) -> str:
+        """What the protocol wants of the role next, such as `send b int`, `pick b go stop` or `end`. NoRole is raised where the
+        room has no role of that name."""
+        role = coded(role)
+        wanted = self._told_of(LIBRARY.mps_expects, role, len(role))
+        if not wanted:
+            raise cizhmolat.NoRole("refused norole", role.decode("ascii", "backslashreplace"))
+        return wanted
+
+    def slot(self, role: str | bytes, slot: str | bytes) -> Value | None:
+        """The value in that slot of the role, or None where nothing was received there. NoRole is raised where the room has no
+        role of that name."""
+        role, slot = coded(role), coded(slot)
+        value = self._told_of(LIBRARY.mps_slot, role, len(role), slot, len(slot))
+        if not value:
+            self.expects(role)
+            return None
+        read: Value = json.loads(value)
+        return read
+
     @property
     def entries(self) -> int:
         """How many entries the journal has."""
@@ -159,18 +303,34 @@ class Room:
 
     def entry(self, k: int) -> str:
         """Entry number k of the journal, from 0, as a line of a script. IndexError is raised past the end."""
+        entry = self._told_of(LIBRARY.mps_entry, count(k))
+        if not entry:
+            raise IndexError(k)
+        return entry
+
+    def _accepted_of(self, role: str) -> int:
+        """How many entries of the journal are the role's."""
         with self._turn:
-            if count(k) >= self.entries:
-                raise IndexError(k)
-            length = LIBRARY.mps_entry(self._at, k, self._out, self._capacity)
+            for k in range(self._counted, self.entries):
+                self._accepted[self.entry(k).partition(" ")[0]] += 1
+                self._counted += 1
+            return self._accepted[role]
+
+    def _told_of(self, call: Any, *words: bytes | int) -> str:
+        """The whole text that a call gives which changes nothing."""
+        with self._turn:
+            self._check()
+            length = call(self._at, *words, self._out, self._capacity)
             if NO_MEMORY != length > self._capacity:
                 self._make_room(length)
-                length = LIBRARY.mps_entry(self._at, k, self._out, length)
+                length = call(self._at, *words, self._out, length)
             return self._told(length)
 
     def _check(self) -> None:
         if self._handle.at is None:
             raise ValueError("the room is closed")
+        if self._process not in (None, os.getpid()):  # a fork's copy would add to the file without the original's knowledge
+            raise ValueError("the room's file is that of the process that opened it")
 
     def _whole(self, length: int) -> str:
         """The whole answer, of which the length is told, and which was written where it fitted."""
@@ -189,6 +349,15 @@ class Room:
         """Makes room for a text of so many bytes."""
         block = ctypes.create_string_buffer(capacity)
         self._text, self._out, self._capacity = memoryview(block), ctypes.addressof(block), capacity
+
+
+def unnumbered(command: str) -> str:
+    """The command line of a role, which has no number."""
+    if "\n" in command or not command.isascii():
+        raise ValueError(f"no line: {command!r}")
+    if command[:1].isdigit():
+        return f"0 {command}"  # two numbers are refused, as at a server, where each command has one
+    return command
 
 
 class Role(cizhmolat.Role):
@@ -217,20 +386,25 @@ class Role(cizhmolat.Role):
 
     @property
     def newest(self) -> int:
-        """How many commands of the role were accepted that change the session, by this Role and others of the name."""
-        return self.session._accepted.get(self.role, 0)
+        """How many commands of the role were accepted that change the session, since it began."""
+        return self.session._accepted_of(self.role)
+
+    def would(self, command: str) -> Refused | None:
+        """None where this command would be accepted, if it was given now; else the exception that it would raise, which is given and
+        not raised. Nothing changes."""
+        return self.session.would(self.role, unnumbered(command))
+
+    def expects(self) -> str:
+        """What the protocol wants of the role next, such as `send b int`, `pick b go stop` or `end`."""
+        return self.session.expects(self.role)
+
+    def slot(self, slot: str) -> Value | None:
+        """The value in that slot, or None where nothing was received there."""
+        return self.session.slot(self.role, slot)
 
     def ask(self, command: str) -> str:
         """The answer to a command line, which is given without a number; refusals aren't raised."""
-        if "\n" in command or not command.isascii():
-            raise ValueError(f"no line: {command!r}")
-        if command[:1].isdigit():
-            command = f"0 {command}"  # two numbers are refused, as at a server, where each command has one
-        with self.session._turn:
-            answer = self.session.ask(self.role, command)
-            if answer.startswith(("done", "undone")):
-                self.session._accepted[self.role] = self.newest + 1
-        return answer
+        return self.session.ask(self.role, unnumbered(command))
 
     async def _ask(self, command: str, limit: float, *questions: str, wait: float = 0) -> list[str]:
         """The answer to a command line, and those to questions; nobody acts between them."""

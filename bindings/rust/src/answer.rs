@@ -38,7 +38,7 @@ pub enum Value {
     Text(String),
 }
 
-/// Why a line was refused. The session is then as it was.
+/// Why a line was refused. The session is then as it was, unless it is by [`Refusal::Journal`].
 #[derive(Clone, Copy, Debug, PartialEq, Eq, Hash)]
 pub enum Refusal {
     /// The role's part of the protocol has ended.
@@ -75,12 +75,15 @@ pub enum Refusal {
     NoRole,
     /// The line's number is neither that of the role's last accepted one nor the one after it.
     Number,
+    /// The room's file can't be written, or the disk didn't store it, and each line from then on is refused so. Open it again,
+    /// and it is as the file has it; after a sync that failed only another process can.
+    Journal,
 }
 
 /// Why a line has no [`Answer`].
 #[derive(Clone, Debug, PartialEq, Eq, Hash)]
 pub enum Error {
-    /// The line was refused, and nothing has changed.
+    /// The line was refused, and nothing has changed, unless it is by [`Refusal::Journal`].
     Refused(Refusal),
     /// There was no memory for the text of the answer. The line was run, so ask [`Room::answer`](crate::Room::answer) for
     /// its answer, and don't give it again.
@@ -93,7 +96,7 @@ pub enum Error {
 #[derive(Clone, Copy, Debug, PartialEq, Eq, Hash)]
 pub struct NoMemory;
 
-const LONE: [(Refusal, &str, &str); 15] = [
+const LONE: [(Refusal, &str, &str); 16] = [
     (
         Refusal::Ended,
         "ended",
@@ -152,6 +155,11 @@ const LONE: [(Refusal, &str, &str); 15] = [
         Refusal::Number,
         "number",
         "the line has another number than the role's last one or the next one",
+    ),
+    (
+        Refusal::Journal,
+        "journal",
+        "the room's file can't be written",
     ),
 ];
 
@@ -219,6 +227,15 @@ impl From<NoMemory> for Error {
     fn from(_: NoMemory) -> Error {
         Error::NoMemory
     }
+}
+
+/// Reads what a line would be answered.
+pub(crate) fn foreseen(answer: &str) -> Result<Result<(), Refusal>, Error> {
+    let would = match answer.strip_prefix("refused ") {
+        Some(reason) => refusal(reason).map(Err),
+        None => (answer == "accepted").then_some(Ok(())),
+    };
+    would.ok_or_else(|| Error::Unknown(answer.to_owned()))
 }
 
 /// Reads the text of an answer.

@@ -16,21 +16,29 @@
 //! # Ok::<(), Box<dyn std::error::Error>>(())
 //! ```
 //!
+//! [`Room::open_file`] opens a room that a file keeps: it outlives its process, and its file can go to a server and back.
+//!
 //! The lines and their answers are those of `docs/FORMATS.md` in the repository of Cizhmolat; `docs/EMBEDDING.md` says what is
 //! proved of the library that this crate calls, and what isn't. This crate is plain Rust, and nothing of it is proved. It is
 //! linked with `libcizhmolat.a`, which `./mps library DIR` makes there: set `CIZHMOLAT_DIR` to that folder.
 #![deny(missing_docs)]
 
 mod answer;
+mod expects;
 mod fault;
+mod file;
 mod sys;
 
 use std::cell::UnsafeCell;
 use std::fmt;
+use std::path::Path;
 use std::ptr;
+use std::str::FromStr;
 
 pub use answer::{Answer, Error, NoMemory, NoValue, Refusal, Value};
+pub use expects::{Expects, NothingExpected, Sort};
 pub use fault::{OpenError, ProtocolFault, TextFault};
+pub use file::{FileError, FileOptions, LineFault, NotStored};
 
 /// A room with a session of a protocol.
 ///
@@ -74,6 +82,41 @@ impl Room {
     /// ```
     pub fn open(text: impl AsRef<[u8]>) -> Result<Room, OpenError> {
         let text = text.as_ref();
+        Room::opened(|room, fault, place| {
+            // SAFETY: the text is a slice, and the three places are values of `opened`'s own.
+            unsafe { sys::mps_open(text.as_ptr(), text.len(), room, fault, place) }
+        })
+        .map_err(|(fault, place)| OpenError::of(fault, place))
+    }
+
+    /// Opens a room that a file keeps: it is as the file at the path leaves it, and each command that is accepted from then
+    /// on is in the file before its answer is told. The file is the journal of session 1, as a server's folder has it in
+    /// `1.journal`; [`FileOptions`] has other numbers, and syncs.
+    ///
+    /// ```
+    /// use cizhmolat::{Answer, Room};
+    ///
+    /// # let folder = std::env::temp_dir().join(format!("cizhmolat-doc-{}", std::process::id()));
+    /// # std::fs::create_dir_all(&folder)?;
+    /// # let path = folder.join("1.journal");
+    /// let protocol = "roles a b ; a -> b : int . end";
+    /// let mut room = Room::open_file(protocol, &path)?;
+    /// assert_eq!(room.line("a", "1 send b 5")?, Answer::Done(1));
+    /// drop(room); // or the process is killed
+    /// let mut room = Room::open_file(protocol, &path)?;
+    /// assert_eq!(room.line("a", "1 send b 5")?, Answer::Done(1)); // as before, and nothing is run
+    /// assert_eq!(room.entries(), 1);
+    /// # std::fs::remove_dir_all(&folder)?;
+    /// # Ok::<(), Box<dyn std::error::Error>>(())
+    /// ```
+    pub fn open_file(text: impl AsRef<[u8]>, path: impl AsRef<Path>) -> Result<Room, FileError> {
+        FileOptions::new().open(text, path)
+    }
+
+    /// The room that the call opens, or the number and the place of the fault that it tells.
+    fn opened(
+        open: impl FnOnce(*mut sys::Handle, *mut u32, *mut u64) -> bool,
+    ) -> Result<Room, (u32, u64)> {
         let (mut fault, mut place) = (0, 0);
         let mut room = Room {
             handle: UnsafeCell::new(sys::Handle {
@@ -81,20 +124,10 @@ impl Room {
             }),
             text: Vec::new(),
         };
-        // SAFETY: the text is a slice, and the three places are values of this function's own.
-        let is_open = unsafe {
-            sys::mps_open(
-                text.as_ptr(),
-                text.len(),
-                room.handle.get_mut(),
-                &mut fault,
-                &mut place,
-            )
-        };
-        if is_open {
+        if open(room.handle.get_mut(), &mut fault, &mut place) {
             Ok(room)
         } else {
-            Err(OpenError::of(fault, place))
+            Err((fault, place))
         }
     }
 
@@ -150,6 +183,100 @@ impl Room {
         answer::read(self.whole(length)?)
     }
 
+    /// Has the disk store all that was answered so far, in one sync for a batch of lines. Nothing happens where the room has no
+    /// file.
+    pub fn sync(&mut self) -> Result<(), NotStored> {
+        // SAFETY: the handle owns an open room.
+        let is_stored = unsafe { sys::mps_sync(self.handle.get_mut()) };
+        is_stored.then_some(()).ok_or(NotStored)
+    }
+
+    /// Whether the line would be accepted, if it was given now, or by which refusal it would be refused. Nothing changes. Lack of
+    /// memory for what an accepted command would do isn't foreseen.
+    ///
+    /// ```
+    /// use cizhmolat::Refusal;
+    ///
+    /// # let mut room = cizhmolat::Room::open("roles a b ; a -> b : int . end").unwrap();
+    /// assert_eq!(room.would("a", "send b 5")?, Ok(()));
+    /// assert_eq!(room.would("a", "undo 1")?, Err(Refusal::NoStep));
+    /// # Ok::<(), cizhmolat::Error>(())
+    /// ```
+    pub fn would(
+        &self,
+        role: impl AsRef<[u8]>,
+        line: impl AsRef<[u8]>,
+    ) -> Result<Result<(), Refusal>, Error> {
+        let (role, line) = (role.as_ref(), line.as_ref());
+        let told = self.text_of(|room, out, capacity| {
+            // SAFETY: `text_of` lends an open room and its own slice, and both texts are slices.
+            unsafe {
+                sys::mps_would(
+                    room,
+                    role.as_ptr(),
+                    role.len(),
+                    line.as_ptr(),
+                    line.len(),
+                    out,
+                    capacity,
+                )
+            }
+        })?;
+        answer::foreseen(&told)
+    }
+
+    /// What the protocol wants of the role next; nothing is told where the room has no role of that name.
+    ///
+    /// ```
+    /// use cizhmolat::{Expects, Sort};
+    ///
+    /// # let mut room = cizhmolat::Room::open("roles a b ; a -> b : int . end").unwrap();
+    /// let wanted = Expects::Send { peer: "b".into(), sort: Sort::Int };
+    /// assert_eq!(room.expects("a"), Ok(Some(wanted)));
+    /// ```
+    pub fn expects(&self, role: impl AsRef<[u8]>) -> Result<Option<Expects>, Error> {
+        let role = role.as_ref();
+        let told = self.text_of(|room, out, capacity| {
+            // SAFETY: `text_of` lends an open room and its own slice, and the role is a slice.
+            unsafe { sys::mps_expects(room, role.as_ptr(), role.len(), out, capacity) }
+        })?;
+        read_if_any(told)
+    }
+
+    /// The value in the slot of the role; there is none where nothing was received there, or the room has no role of that name.
+    ///
+    /// ```
+    /// use cizhmolat::Value;
+    ///
+    /// # let mut room = cizhmolat::Room::open("roles a b ; a -> b : int . end").unwrap();
+    /// room.line("a", "send b 5")?;
+    /// room.line("b", "recv a x")?;
+    /// assert_eq!(room.slot("b", "x")?, Some(Value::Int(5)));
+    /// # Ok::<(), cizhmolat::Error>(())
+    /// ```
+    pub fn slot(
+        &self,
+        role: impl AsRef<[u8]>,
+        slot: impl AsRef<[u8]>,
+    ) -> Result<Option<Value>, Error> {
+        let (role, slot) = (role.as_ref(), slot.as_ref());
+        let told = self.text_of(|room, out, capacity| {
+            // SAFETY: `text_of` lends an open room and its own slice, and both names are slices.
+            unsafe {
+                sys::mps_slot(
+                    room,
+                    role.as_ptr(),
+                    role.len(),
+                    slot.as_ptr(),
+                    slot.len(),
+                    out,
+                    capacity,
+                )
+            }
+        })?;
+        read_if_any(told)
+    }
+
     /// How many entries the journal has: the commands that were accepted and change the session.
     pub fn entries(&self) -> u64 {
         // SAFETY: the handle owns an open room, and no other call of it is under way: it isn't `Sync`.
@@ -165,17 +292,26 @@ impl Room {
     /// assert_eq!(room.entry(1), Ok(None));
     /// ```
     pub fn entry(&self, k: u64) -> Result<Option<String>, NoMemory> {
+        let entry = self.text_of(|room, out, capacity| {
+            // SAFETY: `text_of` lends an open room and its own slice.
+            unsafe { sys::mps_entry(room, k, out, capacity) }
+        })?;
+        Ok((!entry.is_empty()).then_some(entry))
+    }
+
+    /// The whole text that the call gives of an open room, which it doesn't change: it writes as much as fits into a slice, and
+    /// gives the length of the whole.
+    fn text_of(
+        &self,
+        call: impl Fn(*mut sys::Handle, *mut u8, usize) -> usize,
+    ) -> Result<String, NoMemory> {
         let mut text = Vec::new();
         loop {
-            // SAFETY: as in `entries`; the slice is this function's own.
-            let length =
-                unsafe { sys::mps_entry(self.handle.get(), k, text.as_mut_ptr(), text.len()) };
-            if length == 0 {
-                return Ok(None);
-            }
+            // no other call of the handle is under way: the room isn't `Sync`
+            let length = call(self.handle.get(), text.as_mut_ptr(), text.len());
             if length <= text.len() {
                 text.truncate(length);
-                return Ok(Some(String::from_utf8(text).expect("an entry is ASCII")));
+                return Ok(String::from_utf8(text).expect("a text of the library is ASCII"));
             }
             grow(&mut text, length)?;
         }
@@ -195,6 +331,15 @@ impl Room {
             };
         }
         Ok(std::str::from_utf8(&self.text[..length]).expect("an answer is ASCII"))
+    }
+}
+
+/// Reads a text of the library, of which there is none where it is empty.
+fn read_if_any<T: FromStr>(text: String) -> Result<Option<T>, Error> {
+    match text.parse() {
+        Ok(read) => Ok(Some(read)),
+        Err(_) if text.is_empty() => Ok(None),
+        Err(_) => Err(Error::Unknown(text)),
     }
 }
 

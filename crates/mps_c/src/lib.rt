@@ -3,14 +3,15 @@
 
 ghost use Rattle.std.specs.Prelude.{◌≡◌, ◌≢◌, ℕ, ◌≤◌, true, false, Some, None, All, [], length, slice_get};
 ghost use types.Logic.{sem};
-ghost use Rattle.mps_embed.specs.Embedded.{IsAnswered, IsToNobody};
+ghost use Rattle.mps_embed.specs.Embedded.{IsAnswered, IsForesight, IsInSlot, IsOnlyTold, IsWanted};
 ghost use Rattle.mps_line.specs.JournalLines.{SpellsJournalLine};
 ghost use Rattle.mps_line.specs.Replies.{SpellsReply};
+ghost use Rattle.mps_line.specs.declared.write_replies.Reply.TheVariants.{NoRole as Nobody, Unkept as Lost};
 ghost use Rattle.mps_room.specs.declared.entry.Entry.{Entry as Kept};
 ghost use Rattle.mps_c.specs.Handle.{handle_owns, RoomValue, the_code};
 ghost use Rattle.mps_c.specs.Results.{IsFilledOrLeft, Opens};
 
-use mps_embed::Embedded;
+use mps_embed::FileRoom;
 use std::alloc::Global;
 use std::marker::Model;
 
@@ -34,11 +35,11 @@ impl Handle {
 
     // Lends the room behind the pointer. The contract is written by hand, as the code is unsafe: the handle ends with
     // the last value behind what is lent.
-    fn room(&mut self) -> &mut Embedded
+    fn room(&mut self) -> &mut FileRoom
         ensures* writes_back { sem 𝓛 (LendsRoom self.entry result) }
         ensures value { result.now ≡ self.old.room }
     {
-        unsafe { &mut *(self.at as *mut Embedded) }
+        unsafe { &mut *(self.at as *mut FileRoom) }
     }
 }
 
@@ -70,15 +71,86 @@ pub extern "C" fn mps_open(
     }
 }
 
+/// Opens a room of the protocol that the text spells, as the file at the path leaves it, which records its accepted lines
+/// from then on. Its seals are those of a session of that number. On `false` as `mps_open`, with 64 to 68 for a fault of the
+/// file, whose place is the line's number, or the system's number of its error; flags that aren't known are refused as an
+/// invalid argument.
+#[unsafe(no_mangle)]
+pub extern "C" fn mps_open_file(
+    alloc: Global,
+    text: &[u8],
+    path: &[u8],
+    session: u64,
+    flags: u32,
+    room: &mut *mut u8,
+    fault: &mut u32,
+    place: &mut u64,
+) -> bool
+    ensures kept { result ≡ false → room.new ≡ room.old }
+    ensures untold { result ≡ true → (fault.new ≡ fault.old) × (place.new ≡ place.old) }
+{
+    match calls::open_file(alloc, text, path, session, flags) {
+        Ok(made) => {
+            *room = Box::into_raw(made) as *mut u8;
+            true
+        }
+        Err(why) => {
+            *fault = why.number();
+            *place = why.place();
+            false
+        }
+    }
+}
+
+/// Has the disk store all that was answered so far, where the room has a file. Where it doesn't this is `false`, and the room
+/// runs no more lines.
+#[unsafe(no_mangle)]
+pub extern "C" fn mps_sync(handle: &mut Handle) -> bool {
+    calls::sync(handle.room())
+}
+
+/// Copies as much as fits of what that line would be answered, were it given now: `accepted`, or the refusal. Returns the
+/// length of the whole in bytes, or SIZE_MAX when out of memory, with `out` unchanged.
+#[unsafe(no_mangle)]
+pub extern "C" fn mps_would(handle: &mut Handle, role: &[u8], line: &[u8], out: &mut [u8]) -> usize
+    ensures same { handle.new.room ≡ handle.old.room }
+    ensures told { IsFilledOrLeft (IsForesight handle.old.room role.now line.now) out.old out.new result }
+{
+    calls::would(handle.room(), role, line, out)
+}
+
+/// Copies as much as fits of what the type of the role of that name wants next, as `show` has it. Returns the length of the
+/// whole in bytes, 0 where no role has the name, or SIZE_MAX when out of memory, with `out` unchanged.
+#[unsafe(no_mangle)]
+pub extern "C" fn mps_expects(handle: &mut Handle, role: &[u8], out: &mut [u8]) -> usize
+    ensures same { handle.new.room ≡ handle.old.room }
+    ensures wanted { IsFilledOrLeft (IsWanted handle.old.room role.now) out.old out.new result }
+{
+    calls::expects(handle.room(), role, out)
+}
+
+/// Copies as much as fits of the value in the slot of the role of that name. Returns the length of the whole in bytes, 0
+/// where there is none, or SIZE_MAX when out of memory, with `out` unchanged.
+#[unsafe(no_mangle)]
+pub extern "C" fn mps_slot(handle: &mut Handle, role: &[u8], slot: &[u8], out: &mut [u8]) -> usize
+    ensures same { handle.new.room ≡ handle.old.room }
+    ensures value { IsFilledOrLeft (IsInSlot handle.old.room role.now slot.now) out.old out.new result }
+{
+    calls::slot(handle.room(), role, slot, out)
+}
+
 /// Runs the line as a command of the role of that name, and copies as much of the answer as fits. Returns the length of
 /// the whole in bytes, or SIZE_MAX when out of memory: the line was run then, and `mps_answer` gives its answer. All
 /// but the pointer is left to `calls`, which is safe code.
 #[unsafe(no_mangle)]
 pub extern "C" fn mps_line(handle: &mut Handle, role: &[u8], line: &[u8], out: &mut [u8]) -> usize
     ensures known { (place : ℕ) → slice_get handle.old.room.room.names place ≡ Some role.now
-        → IsAnswered handle.old.room place line.now handle.new.room }
+        → handle.old.room.whole ≡ true → IsAnswered handle.old.room place line.now handle.new.room }
+    ensures lost { (place : ℕ) → slice_get handle.old.room.room.names place ≡ Some role.now
+        → handle.old.room.whole ≡ false → IsOnlyTold Lost handle.old.room handle.new.room }
+    ensures idle { handle.old.room.records ≡ false → handle.new.room.whole ≡ handle.old.room.whole }
     ensures unknown { All (λ name. name ≢ role.now) handle.old.room.room.names
-        → IsToNobody handle.old.room handle.new.room }
+        → IsOnlyTold Nobody handle.old.room handle.new.room }
     ensures answer { IsFilledOrLeft (λ text. SpellsReply text handle.new.room.reply) out.old out.new result }
 {
     calls::line(handle.room(), role, line, out)
@@ -125,5 +197,5 @@ pub unsafe extern "C" fn mps_close_at(alloc: Global, room: *mut u8)
     ghost before: { RoomValue }
     requires* { sem 𝓛 (handle_owns room before) }
 {
-    calls::close(Box::from_raw(alloc, room as *mut Embedded))
+    calls::close(Box::from_raw(alloc, room as *mut FileRoom))
 }

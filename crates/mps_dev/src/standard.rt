@@ -96,6 +96,13 @@ impl<W> OverWrite<W> {
         }
     }
 
+    /// The writer, to read.
+    pub fn get_ref(&self) -> &W
+        ensures { result.now ≡ writer_of self.now }
+    {
+        &self.inner
+    }
+
     /// Gives the writer back, as the last write left it, unflushed. The count of failures is dropped.
     pub fn into_inner(self) -> W
         ensures { result ≡ writer_of self }

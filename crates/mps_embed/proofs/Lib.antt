@@ -3,3 +3,4 @@ mod Places
 mod Speaking
 mod Crossing
 mod Ends
+mod Foreseeing

@@ -1,1 +1,4 @@
+pub mod Crossing
+pub mod Diaries
 pub mod Embedded
+pub mod Kept

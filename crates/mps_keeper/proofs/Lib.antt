@@ -6,3 +6,4 @@ pub mod Restoring
 pub mod Rerunning
 pub mod Restarting
 pub mod Sealed
+mod Guests

@@ -75,7 +75,7 @@ module _ {R : Type 0} (caller : Ghosts R) (records whole : R → Bool) (taken : 
     came c number command d (Refused refusal) n = leads c command (answers.Refused refusal) d n.call
     came c number command d other n = stays c d n.unchanged
 
-    replied : (line : List ℕ) (c : R) (reply : Reply) (d : R) → RepliesTo caller line c reply d → Leads c d
+    pub replied : (line : List ℕ) (c : R) (reply : Reply) (d : R) → RepliesTo caller line c reply d → Leads c d
     replied line c reply d (Unread u) = stays c d u.unchanged
     replied line c reply d (Called s) = leads c s.command s.answer d s.call
     replied line c reply d (Numbered s) = came c s.number s.command d s.came s.numbered

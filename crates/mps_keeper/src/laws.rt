@@ -1,5 +1,5 @@
 //! Laws of a recorded journal.
-ghost use Rattle.std.specs.Prelude.{◌≡◌, ◌≢◌, ℕ, List, [], ◌∷◌, ◌++◌, ◌⊎◌, Bool, Option, true, ◌*◌, ◌≤◌};
+ghost use Rattle.std.specs.Prelude.{◌≡◌, ◌≢◌, ℕ, List, [], ◌∷◌, ◌++◌, ◌⊎◌, Bool, Option, true, false, ◌*◌, ◌≤◌};
 ghost use Rattle.mps_command.specs.declared.command.Command.{Command};
 ghost use Rattle.mps_command.specs.declared.answer.Answer.{Answer};
 ghost use Rattle.mps_command.specs.declared.answer.Answer.TheVariants.{Refused};
@@ -20,7 +20,8 @@ ghost use Rattle.mps_keeper.specs.declared.keeper.TheConstants.{LONGEST_LINE};
 ghost use Rattle.mps_keeper.specs.declared.restore.TheConstants.{MOST_BYTES};
 ghost use Rattle.mps_room.specs.declared.room.TheConstants.{MAX_ENTRIES};
 ghost use Rattle.mps_wire.specs.Answers.{AnswersBrokenOff, AnswersLines};
-ghost use Rattle.mps_wire.specs.Conversations.{ConversesLine, ConversesBrokenOff};
+ghost use Rattle.mps_wire.specs.Conversations.{ConversesLine, ConversesBrokenOff, RepliesTo};
+ghost use Rattle.mps_line.specs.declared.write_replies.Reply.{Reply};
 
 use crate::gate::Gate;
 use crate::guest::Guest;
@@ -64,6 +65,29 @@ pub fn what_is_answered_is_recorded<G: Gate + 'static, K: Recorder, C: Recordabl
         (ConversesBrokenOff ⟦<Guest<'static, G, K, C> as Caller>⟧ waits) asked before written after
         → K.records before.recorder ≡ true → K.whole before.recorder ≡ true
         → WrittenIsRecorded ⟦<Guest<'static, G, K, C> as Caller>⟧ waits (λ r. K.taken r.recorder) asked before written after }
+{}
+
+/// Recording changes no answer: what a guest is replied to a line, its caller is, and is left so. Where nothing was lost its
+/// command is recorded, if it made one. Once something is lost it stays lost; and where nothing is recorded the recorder stays
+/// as it was.
+pub fn a_guest_is_answered_as_its_caller<G: Gate + 'static, K: Recorder, C: Recordable>()
+    ensures replies { (line : List ℕ) (before : GuestOf G K C) (reply : Reply) (after : GuestOf G K C)
+        → RepliesTo ⟦<Guest<'static, G, K, C> as Caller>⟧ line before reply after
+        → RepliesTo ⟦<C as Caller>⟧ line before.inner reply after.inner }
+    ensures recorded { (line : List ℕ) (before : GuestOf G K C) (reply : Reply) (after : GuestOf G K C)
+        → RepliesTo ⟦<Guest<'static, G, K, C> as Caller>⟧ line before reply after
+        → K.records before.recorder ≡ true → K.whole after.recorder ≡ true
+        → RecordedOn (C.names before.inner) (K.taken before.recorder) (K.taken after.recorder)
+        (C.last before.inner) (C.last after.inner) (C.made before.inner) (C.made after.inner) }
+    ensures once { (line : List ℕ) (before : GuestOf G K C) (reply : Reply) (after : GuestOf G K C)
+        → RepliesTo ⟦<Guest<'static, G, K, C> as Caller>⟧ line before reply after
+        → K.whole after.recorder ≡ true → K.whole before.recorder ≡ true }
+    ensures same { (line : List ℕ) (before : GuestOf G K C) (reply : Reply) (after : GuestOf G K C)
+        → RepliesTo ⟦<Guest<'static, G, K, C> as Caller>⟧ line before reply after
+        → K.records after.recorder ≡ K.records before.recorder }
+    ensures idle { (line : List ℕ) (before : GuestOf G K C) (reply : Reply) (after : GuestOf G K C)
+        → RepliesTo ⟦<Guest<'static, G, K, C> as Caller>⟧ line before reply after
+        → K.records before.recorder ≡ false → after.recorder ≡ before.recorder }
 {}
 
 /// What was recorded of a legal journal, restored in a session in which nothing was done yet, is that journal: each entry

@@ -16,3 +16,4 @@ pub mod Faithful
 pub mod Numbering
 pub mod OneAnswer
 pub mod Working
+mod Foreseeing

@@ -1,6 +1,6 @@
 -- Journals: what a session accepted, each command with its role and its answer.
 use Rattle.std.specs.Prelude.{◌≡◌, ℕ, ◌<◌, ◌≤◌, ⊤, Bool, true, false, ◌==◌, ◌&&◌, nat_lt, if◌then◌else◌, List, [], ◌∷◌}
-use Rattle.std.specs.Prelude.{◌++◌, length, drop}
+use Rattle.std.specs.Prelude.{◌++◌, length, drop, Option, None, Some}
 use Rattle.std.specs.List.{filter, flat_map, list_any}
 use Rattle.std.specs.Option.{option_map_or}
 use Rattle.mps_local.specs.Local.{LocalType}
@@ -10,6 +10,7 @@ use Rattle.mps_command.specs.declared.command.Command.{Command}
 use Rattle.mps_command.specs.declared.command.Command.TheVariants as commands
 use Rattle.mps_command.specs.declared.answer.Answer.{Answer}
 use Rattle.mps_command.specs.declared.answer.Answer.TheVariants.{Done, Undone, News, Shown, Refused}
+use Rattle.mps_command.specs.declared.answer.Refusal.{Refusal}
 use Rattle.mps_command.specs.declared.answer.Refusal.TheVariants.{Full}
 use Rattle.mps_machine.specs.Answering.{IsAnswer, result_of}
 use Rattle.mps_machine.specs.Machine.{State, initial, serve}
@@ -70,6 +71,11 @@ answer_to names types j p (commands.Rollback n) =
 answer_to names types j p (commands.Back name) = limited (length j) (serve types (run types j) p (changes.Back name)).0
 answer_to names types j p (commands.News n) = News (length j) (news j p n)
 answer_to names types j p commands.Show = Shown (show_text names types (run types j).history)
+
+-- the refusal that an answer is, if it is one
+abbrev pub refusal_of : Answer → Option Refusal
+refusal_of (Refused refusal) = Some refusal
+refusal_of answer = None
 
 -- whether the answer accepts a change, which the journal then keeps
 abbrev pub is_accepted : Answer → Bool

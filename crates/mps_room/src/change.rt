@@ -1,9 +1,10 @@
 //! Changes of a room.
 ghost use Rattle.std.specs.Prelude.{◌≡◌, ◌≢◌, ℕ, ◌+◌, true, false, [], ◌∷◌, ◌++◌, ◌<◌, ◌≤◌, Option, map, length};
-ghost use Rattle.std.specs.Prelude.{vec_len, vec_capacity, slice_index_or, IsSome, IfErr, IfOk, OnOk, OnErr};
+ghost use Rattle.std.specs.Prelude.{vec_len, vec_capacity, slice_index_or, IsSome, IsTrue, IfErr, IfOk, OnOk, OnErr, ◌↔◌};
+ghost use Rattle.std.specs.Result.{result_err};
 ghost use Rattle.mps_command.specs.Changes.{change_of};
 ghost use Rattle.mps_command.specs.declared.answer.Answer.TheVariants.{Refused};
-ghost use Rattle.mps_room.specs.Journal.{grown, most_entries, answer_to, undone_by, MayAnswer};
+ghost use Rattle.mps_room.specs.Journal.{grown, most_entries, answer_to, refusal_of, undone_by, MayAnswer};
 ghost use Rattle.mps_room.specs.Private.Heard.{hears, with_place, takes_others};
 ghost use Rattle.mps_room.specs.Private.Forms.{narrow_answer, narrow, source_place, Fits};
 ghost use Rattle.mps_room.specs.Private.Owners.{owns, owners_after, is_step, HasSpace};
@@ -148,6 +149,13 @@ fn undone_by(gist: &Gist) -> &[StepId]
     }
 }
 
+// Whether it asks for a change, and not how things stand.
+fn is_change(command: &Command) -> bool
+    ensures { IsTrue result ↔ IsSome (change_of command.now) }
+{
+    !matches!(command, Command::News(_) | Command::Show)
+}
+
 impl Room {
     /// Answers a command that asks for a change. Memory for the entry is reserved first, then the session changes, then
     /// the entry is stored: so what is accepted is always in the journal, and a refusal changes nothing.
@@ -185,6 +193,27 @@ impl Room {
             }
             Err(refusal) => Answer::Refused(refusal),
         }
+    }
+
+    /// Why the role's command would be refused, lack of memory aside: `Full` where the journal has no space for a change that
+    /// the session would accept. `Ok` for a question. The room is as before when it returns; it is borrowed exclusively,
+    /// since steps are chosen on the way. It does not allocate.
+    pub fn would(&mut self, role: Role, command: &Command) -> Result<(), Refusal>
+        requires { role < length self.old.types }
+        ensures refusal { result_err result
+            ≡ refusal_of (answer_to self.old.names self.old.types self.old.journal role command.now) }
+        ensures kept { self.new ≡ self.old }
+    {
+        if let Err(refusal) = self.session.would(role, command) {
+            return Err(refusal);
+        }
+        if !is_change(command) {
+            return Ok(());
+        }
+        if self.journal.len() >= MAX_ENTRIES {
+            return Err(Refusal::Full);
+        }
+        Ok(())
     }
 
     // The refusal of a change for which the journal has no space or memory: the session's own, if it would refuse

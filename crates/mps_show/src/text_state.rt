@@ -8,7 +8,8 @@ ghost use Rattle.mps_show.specs.Plain.{IsPlain, ArePlainItems, AreShown};
 ghost use Rattle.mps_show.specs.Private.Rows.{joined, behind, own_number};
 ghost use Rattle.mps_show.specs.Shown.{row, role_name, step_shown, queue_shown, queues_from, queues_shown};
 ghost use Rattle.mps_show.specs.Shown.{waiting_shown, head_shown, number_shown, binding_shown, role_shown, roles_shown};
-ghost use Rattle.mps_show.specs.Shown.{shown, show_text};
+ghost use Rattle.mps_base.specs.Spaced.{spaced};
+ghost use Rattle.mps_show.specs.Shown.{head_tokens, shown, show_text};
 ghost use Rattle.serde_json.specs.View.{items_of};
 ghost use Rattle.serde_json.specs.Written.{compact_text};
 
@@ -31,6 +32,22 @@ pub fn write_show(names: &Roles, session: &Session, out: &mut Vec<u8>) -> Result
     let mut text = Vec::new(*out.allocator());
     put_state(&mut text, names, session)?;
     out.extend_from_slice(&text)
+}
+
+/// Appends what the role's type allows next, in words, as `write_show` has them: `end`, or an act's word, the peer, and a
+/// sort or labels. Out of memory is the only error: a part may stand in `out` then.
+pub fn write_expects(
+    names: &Roles,
+    session: &Session,
+    role: Role,
+    out: &mut Vec<u8>,
+) -> Result<(), AllocError>
+    requires count { length names.now ≡ length session.now.types }
+    requires role { role < length session.now.types }
+    ensures text { OnOk result (out.new.items ≡ out.old.items
+        ++ spaced (head_tokens names.now (head ((session_view session.now).participant role).to_come))) }
+{
+    put_head(out, names, session, role)
 }
 
 // Appends the whole state as a JSON object. When out of memory a part may stand in `out`, which is `write_show`'s

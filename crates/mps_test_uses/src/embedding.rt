@@ -1,7 +1,10 @@
 //! mps_embed and mps_open, as a user calls them: a room answers each role's lines, or a fault says why there is none.
 use crate::sessions::RELAY;
-use mps_embed::Embedded;
+use mps_dev::{Short, Sink};
+use mps_embed::{Embedded, FileRoom};
+use mps_keeper::{Book, LONGEST_LINE, RestoredRoom};
 use mps_open::open_text;
+use mps_seal::Seal;
 use std::alloc::Global;
 use std::process::Abort;
 
@@ -9,7 +12,7 @@ use std::process::Abort;
 const MOST: usize = 16;
 
 // Whether a line of that role gets this answer.
-fn gets(room: &mut Embedded, role: &[u8], line: &[u8], answer: &[u8]) -> bool {
+fn gets<W: Sink>(room: &mut Embedded<W>, role: &[u8], line: &[u8], answer: &[u8]) -> bool {
     let mut out = [0u8; MOST];
     room.line(role, line);
     match room.answer_into(&mut out) {
@@ -19,7 +22,7 @@ fn gets(room: &mut Embedded, role: &[u8], line: &[u8], answer: &[u8]) -> bool {
 }
 
 // Whether an entry, of which 8 bytes are looked at, has this front and length. Past the end that is nothing, and 0.
-fn has_entry(room: &mut Embedded, k: u64, front: &[u8], length: usize) -> bool {
+fn has_entry(room: &mut FileRoom, k: u64, front: &[u8], length: usize) -> bool {
     let mut out = [0u8; MOST];
     match room.entry_into(k, &mut out[..8]) {
         Ok(n) => n == length && out.starts_with(front),
@@ -28,12 +31,12 @@ fn has_entry(room: &mut Embedded, k: u64, front: &[u8], length: usize) -> bool {
 }
 
 // Whether the answer is written so at the end of what the buffer has.
-fn writes(room: &Embedded, out: &mut Vec<u8>, answer: &[u8]) -> bool {
+fn writes(room: &FileRoom, out: &mut Vec<u8>, answer: &[u8]) -> bool {
     room.write_answer(out).is_ok() && out.as_slice() == answer
 }
 
 // Such lines are answered as they should be, of roles and of a name that is none.
-fn embeds(rt: &impl Abort, alloc: Global, room: &mut Embedded) {
+fn embeds(rt: &impl Abort, alloc: Global, room: &mut FileRoom) {
     let mut out = Vec::new(alloc);
     assert!(rt; gets(room, b"a", b"send b 5", b"done 1"), "a's send");
     assert!(rt; gets(room, b"b", b"recv a x", b"done 2 5"), "b's receipt");
@@ -45,14 +48,14 @@ fn embeds(rt: &impl Abort, alloc: Global, room: &mut Embedded) {
 }
 
 // There are two entries, of which the first has 10 bytes, and no third.
-fn has_two_entries(rt: &impl Abort, room: &mut Embedded) {
+fn has_two_entries(rt: &impl Abort, room: &mut FileRoom) {
     assert!(rt; has_entry(room, 0, b"a send b", 10), "the first entry");
     assert!(rt; has_entry(room, 2, b"", 0), "no third entry");
     assert!(rt; room.room().entries() == 2, "two entries");
 }
 
 // Each role's numbers are its own.
-fn numbers(rt: &impl Abort, room: &mut Embedded) {
+fn numbers(rt: &impl Abort, room: &mut FileRoom) {
     assert!(rt; gets(room, b"a", b"1 send b 5", b"done 1"), "a's number 1");
     assert!(rt; gets(room, b"b", b"1 mark m", b"done 2"), "b's number 1");
     assert!(rt;
@@ -75,7 +78,7 @@ fn gives_none(alloc: Global, text: &[u8], number: u32, place: u64) -> bool {
 // a buffer.
 #[test]
 fn an_embedded_room_answers_each_line(rt: HostRuntime) {
-    let mut room = Embedded::open(rt.alloc(), RELAY).ok().expect(&rt, "a room");
+    let mut room = FileRoom::open(rt.alloc(), RELAY).ok().expect(&rt, "a room");
     embeds(&rt, rt.alloc(), &mut room);
     has_two_entries(&rt, &mut room);
 }
@@ -83,8 +86,100 @@ fn an_embedded_room_answers_each_line(rt: HostRuntime) {
 // `mps_embed::Embedded` runs a number of a role once, and each role has numbers of its own.
 #[test]
 fn each_role_of_an_embedded_room_has_its_own_numbers(rt: HostRuntime) {
-    let mut room = Embedded::open(rt.alloc(), RELAY).ok().expect(&rt, "a room");
+    let mut room = FileRoom::open(rt.alloc(), RELAY).ok().expect(&rt, "a room");
     numbers(&rt, &mut room);
+}
+
+// Whether that is foreseen of the line of a, with its number.
+fn foresees(room: &mut FileRoom, line: &[u8], told: &[u8]) -> bool {
+    let mut out = [0u8; MOST];
+    match room.would_into(b"a", line, &mut out) {
+        Ok(n) => n == told.len() && out.starts_with(told),
+        Err(_) => false,
+    }
+}
+
+// `mps_embed::Embedded` foresees what a line would be answered, and stays as it is: what it foresaw then comes.
+#[test]
+fn an_embedded_room_foresees_what_it_answers(rt: HostRuntime) {
+    let mut room = FileRoom::open(rt.alloc(), RELAY).ok().expect(&rt, "a room");
+    assert!(rt;
+        foresees(&mut room, b"1 send b 5", b"accepted"),
+        "a's first"
+    );
+    assert!(rt; gets(&mut room, b"a", b"1 send b 5", b"done 1"), "a's send");
+    assert!(rt;
+        foresees(&mut room, b"1 send b 5", b"accepted"),
+        "the same again"
+    );
+    assert!(rt;
+        foresees(&mut room, b"2 send b 5", b"refused ended"),
+        "a second send"
+    );
+    assert!(rt;
+        foresees(&mut room, b"4 mark m", b"refused number"),
+        "number 4"
+    );
+}
+
+// Whether b's slot, or what a role wants, is told so.
+fn tells(room: &mut FileRoom, role: &[u8], wants: &[u8], held: &[u8]) -> bool {
+    let mut out = [0u8; MOST];
+    let mut slot = [0u8; MOST];
+    let (Ok(n), Ok(m)) = (
+        room.expects_into(role, &mut out),
+        room.slot_into(role, b"x", &mut slot),
+    ) else {
+        return false;
+    };
+    n == wants.len() && out.starts_with(wants) && m == held.len() && slot.starts_with(held)
+}
+
+// `mps_embed::Embedded` tells what a role's type wants, and what is in its slot.
+#[test]
+fn an_embedded_room_tells_how_a_role_stands(rt: HostRuntime) {
+    let mut room = FileRoom::open(rt.alloc(), RELAY).ok().expect(&rt, "a room");
+    assert!(rt;
+        tells(&mut room, b"b", b"recv a int", b""),
+        "b, to begin with"
+    );
+    assert!(rt; gets(&mut room, b"a", b"send b 5", b"done 1"), "a's send");
+    assert!(rt;
+        gets(&mut room, b"b", b"recv a x", b"done 2 5"),
+        "b's receipt"
+    );
+    assert!(rt;
+        tells(&mut room, b"b", b"send c int", b"5"),
+        "b, after its receipt"
+    );
+    assert!(rt; tells(&mut room, b"z", b"", b""), "no role z");
+}
+
+// A room whose book takes 48 bytes: the mark has 18 of them.
+fn recorded(alloc: Global) -> Option<Embedded<Short>> {
+    let (roles, session) = open_text(alloc, RELAY).ok()?;
+    let room = RestoredRoom::new(alloc, roles, session).ok()?;
+    let first = Seal::first(alloc, RELAY, 1).ok()?;
+    let mut book = Book::new(Short::new(alloc, 48).ok()?, 0, first);
+    book.mark(alloc).ok()?;
+    let line = Vec::with_capacity(alloc, LONGEST_LINE).ok()?;
+    Some(Embedded::of_restored(alloc, room, Some(book), line))
+}
+
+// `mps_embed::Embedded` answers what is recorded, here a line of 30 bytes; where the next can't be, it answers `refused
+// journal` from then on.
+#[test]
+fn an_embedded_room_tells_what_is_recorded(rt: HostRuntime) {
+    let mut room = recorded(rt.alloc()).expect(&rt, "a room");
+    assert!(rt; gets(&mut room, b"a", b"1 send b 5", b"done 1"), "a's send");
+    assert!(rt;
+        gets(&mut room, b"b", b"recv a x", b"refused journal"),
+        "b's receipt"
+    );
+    assert!(rt;
+        gets(&mut room, b"a", b"1 send b 5", b"refused journal"),
+        "a's again"
+    );
 }
 
 // `mps_open::open_text` gives a fault, with a number and a place: a malformed word is 17, here at byte 17; a role that

@@ -31,7 +31,7 @@ use Rattle.mps_c.specs.Handle.{handle_owns, some_heap}
 use Rattle.mps_c.specs.Lending.{with_room}
 use Rattle.mps_c.specs.contracts.Handle as H
 use Rattle.mps_c.proofs.Handle.TheLaws.{lowers}
-use Rattle.mps_embed.specs.contracts.embedded.Embedded.{the_row as R}
+use Rattle.mps_embed.specs.Crossing.{file_room as R}
 use Rattle.mps_c.specs.contracts.Handle.room as f
 use Rattle.mps_c.proofs.Handle.room.Statement.{statement}
 use Rattle.mps_c.proofs.Handle.room.Code as code

@@ -1,0 +1,200 @@
+//! Rooms that files record.
+ghost use Rattle.std.specs.Prelude.{◌≡◌, IfOk};
+ghost use Rattle.mps_embed.specs.Kept.{IsKeptRoomOf, file_number};
+
+use crate::embedded::Embedded;
+use mps_dev::{OverRead, OverWrite};
+use mps_file::{Descriptor, JournalFile, OwnFile, cut_off, held, marked, torn};
+use mps_keeper::{Book, LONGEST_LINE, Recorder, RestoreFault, Restored, RestoredRoom};
+use mps_open::{Fault, Opening};
+use mps_seal::Seal;
+use mps_text::write_protocol;
+use std::alloc::{AllocError, Global};
+use std::io;
+use std::io::ErrorKind;
+use std::sync::Arc;
+
+/// Why a room isn't opened with its file.
+#[derive(Debug, Drop)]
+pub enum FileFault {
+    /// There is no such room.
+    Room(Fault),
+    /// Another room, or another process, has the file.
+    Elsewhere,
+    /// The system refuses something of the file.
+    Unusable(io::Error),
+    /// The first line that isn't one of this room's journal, counted from 1, and why.
+    Line { line: u64, why: RestoreFault },
+}
+
+impl From<AllocError> for FileFault {
+    fn from(_: AllocError) -> FileFault {
+        FileFault::Room(Fault::Memory)
+    }
+}
+
+impl From<Fault> for FileFault {
+    fn from(fault: Fault) -> FileFault {
+        FileFault::Room(fault)
+    }
+}
+
+impl From<io::Error> for FileFault {
+    fn from(error: io::Error) -> FileFault {
+        match error.kind() {
+            ErrorKind::WouldBlock => FileFault::Elsewhere,
+            ErrorKind::OutOfMemory => FileFault::Room(Fault::Memory),
+            _ => FileFault::Unusable(error),
+        }
+    }
+}
+
+impl From<RestoreFault> for FileFault {
+    fn from(fault: RestoreFault) -> FileFault {
+        match fault {
+            RestoreFault::Memory => FileFault::Room(Fault::Memory),
+            RestoreFault::Read => FileFault::Unusable(io::Error::from(ErrorKind::InvalidData)),
+            RestoreFault::Unreadable { line }
+            | RestoreFault::Refused { line }
+            | RestoreFault::Changed { line } => FileFault::Line { line, why: fault },
+        }
+    }
+}
+
+// The system's number of the error; where it gave none, that of the same kind, or 0.
+fn error_number(why: &io::Error) -> u64 {
+    let number = why.raw_os_error().unwrap_or(match why.kind() {
+        ErrorKind::NotFound => libc::ENOENT,
+        ErrorKind::PermissionDenied => libc::EACCES,
+        ErrorKind::InvalidInput => libc::EINVAL,
+        ErrorKind::InvalidData | ErrorKind::UnexpectedEof => libc::EIO,
+        _ => 0,
+    });
+    number.unsigned_abs() as u64
+}
+
+impl FileFault {
+    /// The number of the fault, for callers that have no enums: that of the room's fault, and 64 to 68 for one of the file.
+    pub fn number(&self) -> u32
+        ensures { result ≡ file_number self.now }
+    {
+        match self {
+            FileFault::Room(fault) => fault.number(),
+            FileFault::Elsewhere => 64,
+            FileFault::Unusable(_) => 65,
+            FileFault::Line { why, .. } => match why {
+                RestoreFault::Unreadable { .. } => 66,
+                RestoreFault::Refused { .. } => 67,
+                _ => 68,
+            },
+        }
+    }
+
+    /// Where the fault is: for a line its number, from 1; for what the system refuses its number of the error, or 0; else
+    /// the place of the room's fault.
+    pub fn place(&self) -> u64 {
+        match self {
+            FileFault::Room(fault) => fault.place(),
+            FileFault::Elsewhere => 0,
+            FileFault::Unusable(why) => error_number(why),
+            FileFault::Line { line, .. } => *line,
+        }
+    }
+}
+
+/// Which file a room has: where it is, which session it is of, and whether each line is stored on the disk before it is
+/// answered.
+#[derive(Clone, Copy, Debug)]
+pub struct FileOf<'p> {
+    pub path: &'p [u8],
+    pub session: u64,
+    pub sync: bool,
+}
+
+// The greatest number of a session.
+const LAST_SESSION: u64 = 1 << 63;
+
+/// A room that may have a file.
+pub type FileRoom = Embedded<OverWrite<JournalFile>>;
+
+// The folder of that file.
+fn folder_of(path: &[u8]) -> &[u8] {
+    match path.iter().rposition(|byte| *byte == b'/') {
+        Some(0) => b"/",
+        Some(end) => &path[..end],
+        None => b".",
+    }
+}
+
+// Where what is cut off that file is kept: beside it, under the name with `.cut` for `.journal`, or else behind it.
+fn beside(alloc: Global, path: &[u8]) -> Result<Vec<u8>, AllocError> {
+    let front = path.strip_suffix(b".journal").unwrap_or(path);
+    let mut beside = Vec::new(alloc);
+    beside.extend_from_slice(front)?;
+    beside.extend_from_slice(b".cut")?;
+    Ok(beside)
+}
+
+// The file that was read so far as `restored` says, cut to its whole lines and marked, as a book that goes on.
+fn book_of(
+    alloc: Global,
+    file: Arc<OwnFile, Global>,
+    of: FileOf<'_>,
+    restored: &Restored,
+) -> io::Result<Book<OverWrite<JournalFile>>> {
+    let count = torn(&file, restored)?;
+    if count > 0 {
+        let beside = beside(alloc, of.path)?;
+        let beside = OwnFile::Raw(Descriptor::open_to_add(beside.as_slice())?);
+        cut_off(alloc, &file, restored, count, &beside, of.sync)?;
+    }
+    let chain = marked(alloc, &file, restored)?;
+    if of.sync {
+        held(&file, file.sync_all())?;
+        held(
+            &file,
+            Descriptor::open_to_read(folder_of(of.path))?.sync_all(),
+        )?;
+    }
+    let written = JournalFile::new(alloc, file, of.sync)?;
+    Ok(Book::new(OverWrite::new(written), restored.lines, chain.seal))
+}
+
+impl FileRoom {
+    /// A room of the protocol that the text spells, as that file of it leaves it, which its further commands are added to.
+    /// The file is made where there is none, and locked as long as the room is open. Sessions are 1 to 2^63, as a server's.
+    ///
+    /// What stands past its last whole line is what a write left that broke off: it is cut, and kept beside the file. Where
+    /// a line isn't as it was written, or its command isn't accepted, the file stays as it is.
+    pub fn open_file(alloc: Global, text: &[u8], of: FileOf<'_>) -> Result<FileRoom, FileFault> {
+        if of.session == 0 || of.session > LAST_SESSION {
+            return Err(FileFault::from(io::Error::from(ErrorKind::InvalidInput)));
+        }
+        let opening = Opening::of_text(alloc, text)?;
+        let protocol = write_protocol(alloc, &opening.protocol)?;
+        let (roles, session) = opening.into_session(alloc)?;
+        let mut room = RestoredRoom::new(alloc, roles, session)?;
+        let line = Vec::with_capacity(alloc, LONGEST_LINE)?;
+        let file = Descriptor::open_locked(of.path)?;
+        let Ok(file) = Arc::new(alloc, OwnFile::Raw(file)) else {
+            return Err(FileFault::Room(Fault::Memory));
+        };
+        let first = Seal::first(alloc, protocol.as_slice(), of.session)?;
+        let restored = room.restore_from(alloc, first, &mut OverRead::new(&*file))?;
+        let book = book_of(alloc, file, of, &restored)?;
+        Ok(Embedded::of_restored(alloc, room, Some(book), line))
+    }
+
+    /// Has the disk store all that was answered so far, where a file records it. Says whether it is stored; where it isn't,
+    /// no line is run any more, as where a line can't be written.
+    pub fn sync(&mut self) -> bool {
+        let stored = match self.guest.recorder.book() {
+            Some(book) => book.is_whole() && book.sink().get_ref().store().is_ok(),
+            None => return true,
+        };
+        if !stored {
+            self.guest.recorder.lose();
+        }
+        stored
+    }
+}

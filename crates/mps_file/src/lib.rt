@@ -1,0 +1,20 @@
+//! The files of sessions' journals: opened, brought to their whole lines, and written.
+//!
+//! ```
+//! let file = OwnFile::Raw(Descriptor::open_locked(alloc, path)?);
+//! let restored = room.restore_from(alloc, first, &mut OverRead::new(&file))?;
+//! if torn(&file, &restored)? > 0 { .. }
+//! ```
+#![tactic(auto)]
+
+pub mod descriptor;
+pub mod journal_file;
+pub mod own_file;
+pub mod rest;
+
+pub use descriptor::Descriptor;
+pub use journal_file::{
+    About, FileKeeper, JournalDisk, JournalFile, LOOK, Note, Unsynced, held, parted,
+};
+pub use own_file::OwnFile;
+pub use rest::{cut_off, marked, torn};

@@ -1,0 +1,152 @@
+//! The file of a journal, however it was opened.
+ghost use Rattle.std.specs.Prelude.{◌≤◌, IfOk, length};
+
+use crate::descriptor::Descriptor;
+use std::fs::File;
+use std::io;
+use std::io::{ErrorKind, Read, Write};
+use std::os::unix::fs::{FileExt, MetadataExt};
+
+// How often a call is tried again that a signal interrupts.
+const INTERRUPTS: u64 = 1_000;
+
+/// An open file: one of std, as a server opens it, or one by its descriptor, as a room in a caller's own process does.
+#[derive(Drop)]
+pub enum OwnFile {
+    Std(File),
+    Raw(Descriptor),
+}
+
+impl OwnFile {
+    /// Whether it has a name still.
+    pub fn has_name(&self) -> io::Result<bool> {
+        match self {
+            OwnFile::Std(file) => Ok(file.metadata()?.nlink() > 0),
+            OwnFile::Raw(file) => file.has_name(),
+        }
+    }
+
+    /// How many bytes it has.
+    pub fn len(&self) -> io::Result<u64> {
+        match self {
+            OwnFile::Std(file) => Ok(file.metadata()?.len()),
+            OwnFile::Raw(file) => file.len(),
+        }
+    }
+
+    /// Cuts it to so many bytes.
+    pub fn set_len(&self, len: u64) -> io::Result<()> {
+        match self {
+            OwnFile::Std(file) => file.set_len(len),
+            OwnFile::Raw(file) => file.set_len(len),
+        }
+    }
+
+    /// Has the disk store all of it.
+    pub fn sync_all(&self) -> io::Result<()> {
+        match self {
+            OwnFile::Std(file) => file.sync_all(),
+            OwnFile::Raw(file) => file.sync_all(),
+        }
+    }
+
+    /// Has the disk store its bytes, and as much else as is needed to read them.
+    pub fn sync_data(&self) -> io::Result<()> {
+        match self {
+            OwnFile::Std(file) => file.sync_data(),
+            OwnFile::Raw(file) => file.sync_data(),
+        }
+    }
+
+    // Reads once at that place.
+    fn read_at(&self, buf: &mut [u8], at: u64) -> io::Result<usize>
+        ensures { IfOk result (λ n. n ≤ length buf.new) }
+    {
+        match self {
+            OwnFile::Std(file) => file.read_at(buf, at),
+            OwnFile::Raw(file) => file.read_at(buf, at),
+        }
+    }
+
+    /// Fills the buffer with what stands at that place. Where less stands there it fails by `UnexpectedEof`.
+    pub fn read_exact_at(&self, buf: &mut [u8], at: u64) -> io::Result<()> {
+        let mut filled = 0;
+        for _ in 0..u64::MAX {
+            if filled >= buf.len() {
+                return Ok(());
+            }
+            match self.read_at(&mut buf[filled..], at.saturating_add(filled as u64)) {
+                Ok(0) => return Err(io::Error::from(ErrorKind::UnexpectedEof)),
+                Ok(n) => filled += n,
+                Err(why) if why.kind() == ErrorKind::Interrupted => {}
+                Err(why) => return Err(why),
+            }
+        }
+        Err(io::Error::from(ErrorKind::Interrupted))
+    }
+
+    // Reads once.
+    fn read_once(&self, buf: &mut [u8]) -> io::Result<usize>
+        ensures { IfOk result (λ n. n ≤ length buf.new) }
+    {
+        match self {
+            OwnFile::Std(file) => read_std(file, buf),
+            OwnFile::Raw(file) => read_raw(file, buf),
+        }
+    }
+
+    // Writes once.
+    fn write_once(&self, buf: &[u8]) -> io::Result<usize>
+        ensures { IfOk result (λ n. n ≤ length buf.now) }
+    {
+        match self {
+            OwnFile::Std(file) => {
+                let mut file = file;
+                file.write(buf)
+            }
+            OwnFile::Raw(file) => {
+                let mut file = file;
+                file.write(buf)
+            }
+        }
+    }
+}
+
+// Reads once from the file of std. Apart from `read_once`, as `read_raw`, so that each has one borrow of the buffer.
+fn read_std(file: &File, buf: &mut [u8]) -> io::Result<usize>
+    ensures { IfOk result (λ n. n ≤ length buf.new) }
+{
+    let mut file = file;
+    file.read(buf)
+}
+
+fn read_raw(file: &Descriptor, buf: &mut [u8]) -> io::Result<usize>
+    ensures { IfOk result (λ n. n ≤ length buf.new) }
+{
+    let mut file = file;
+    file.read(buf)
+}
+
+impl Read for &OwnFile {
+    // Reads once; a read that a signal interrupts is the caller's to try again.
+    fn read(&mut self, buf: &mut [u8]) -> io::Result<usize> {
+        self.read_once(buf)
+    }
+}
+
+impl Write for &OwnFile {
+    // Writes once, and again where a signal interrupts it.
+    fn write(&mut self, buf: &[u8]) -> io::Result<usize> {
+        for _ in 0..INTERRUPTS {
+            match self.write_once(buf) {
+                Err(why) if why.kind() == ErrorKind::Interrupted => {}
+                written => return written,
+            }
+        }
+        self.write_once(buf)
+    }
+
+    fn flush(&mut self) -> io::Result<()> {
+        Ok(())
+    }
+}
