@@ -337,7 +337,7 @@ class Writer:
         return dice.choice((
             "", line[:at], line[:at] + more + line[at:], line[:at] + line[at + 1:], line + more, " " + line,
             line.upper(), line.replace(" ", "  ", 1), line + " " * max(0, length - len(line)), "x" * length,
-            f"{role} send {peer} {no_value}", f"{role} undo {no_number}"))
+            f"{role} send {peer} {no_value}", f"{role} undo {no_number}", f"{role} stand"))
 
 
 def labels_of(types):

@@ -32,8 +32,8 @@ typedef struct mps_room {
 } mps_room;
 
 /* Opens a room with a new session of the protocol that the text spells. Where there is none it is false: `fault` is one of
- * the numbers below, `place` is the byte of a fault of the text, the choice of a projection's, and else 0, and `room` is as
- * it was. */
+ * the numbers below, `place` is the byte of a fault of the text, the choice of a projection's, of which mps_choice tells more,
+ * and else 0, and `room` is as it was. */
 bool mps_open(const uint8_t *text, size_t length, mps_room *room, uint32_t *fault, uint64_t *place);
 
 enum {
@@ -48,10 +48,18 @@ enum {
     MPS_CHANGED = 68      /* it isn't as it was written */
 };
 
+/* The words of a choice of the protocol that the text spells: who chooses, who is told, and the labels of its branches, such
+ * as `a b go stop`. Choices are counted from 0 in the order in which they begin in the text. Of MPS_PROJECTION `place` is such
+ * a number: the role takes no part in that choice, and doesn't do the same in all branches. Writes of the words what fits,
+ * without a NUL, and gives the length of the whole; 0 where the text can't be read (16 to 21), or has not so many choices;
+ * SIZE_MAX where there was no memory, and nothing was written. */
+size_t mps_choice(const uint8_t *text, size_t length, uint64_t number, uint8_t *out, size_t capacity);
+
 /* Opens a room that a file keeps: the room is as the file at the path leaves it, and each command that is accepted from then
  * on is in the file before its answer is told. The file is a journal as a server's folder has it, `1.journal` for session 1;
  * its seals are those of that session. It is made where there is none, and locked as long as the room is open. Where there
- * is no such room it is false, as of mps_open, with the numbers from 64 on for a fault of the file.
+ * is no such room it is false, as of mps_open: `fault` and `place` are those of the text, which is looked at before the
+ * session's number and the file, or, from 64 on, of these.
  *
  * Where a line can't be written its answer is `refused journal`, as is that of each line after it, and the room may show that
  * one command more than the file has: close it, and open it again. Where it was the disk that didn't store, the file stays
@@ -127,6 +135,12 @@ static inline bool mps_open_file_string(const char *text, const char *path, uint
 static inline size_t mps_ended(size_t length, char *out, size_t capacity) {
     if (capacity != 0) out[length == SIZE_MAX ? 0 : length < capacity ? length : capacity - 1] = '\0';
     return length;
+}
+
+/* As mps_choice, with strings. What is written ends with a NUL, for which `capacity` has a byte. */
+static inline size_t mps_choice_string(const char *text, uint64_t number, char *out, size_t capacity) {
+    size_t length = mps_choice((const uint8_t *)text, strlen(text), number, (uint8_t *)out, capacity != 0 ? capacity - 1 : 0);
+    return mps_ended(length, out, capacity);
 }
 
 /* As mps_line, with strings. What is written ends with a NUL, for which `capacity` has a byte. */

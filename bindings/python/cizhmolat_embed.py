@@ -9,7 +9,8 @@
         step, value = b.receive("a", "x")
 
 A Role is a `cizhmolat.Role` whose session is a Room of this process in place of the number of a served one: it has the same
-methods, which raise the same exceptions. So a program that was written for a server goes on here with
+methods, which raise the same exceptions, and `stand` is refused as at a server without --wait. So a program that was written
+for a server goes on here with
 
     from cizhmolat_embed import Role, Room
     session = Room(protocol)
@@ -39,6 +40,7 @@ import collections
 import ctypes
 import json
 import os
+import re
 import threading
 import time
 from pathlib import Path
@@ -54,23 +56,32 @@ SYNC = 1
 TEXTS = ("toolong", "word", "unexpected", "toomanynodes", "toodeep", "trailing")
 PROTOCOLS = ("rolecount", "doublerole", "toomanynodes", "toodeep", "unknownrole", "selfmessage", "doublelabel",
              "toomanybranches", "nobranches", "unbound", "shadowed", "unguarded")
-ELSEWHERE, FILE = 64, 65
+PROJECTION, ELSEWHERE, FILE = 48, 64, 65
 LINES = ("unreadable", "refused", "changed")  # the faults of a line of a file, from 66 on
 
 
 class BadProtocol(Error):
     """The text gives no room.
 
-    word     the kind of its fault, as `mps check` names it, such as `unexpected`, `unbound` or `projection`
-    number   the fault's number, as cizhmolat.h lists them
-    place    the byte of a fault of the text, the choice of a projection's, and else 0"""
+    word      the kind of its fault, as `mps check` names it, such as `unexpected`, `unbound` or `projection`
+    number    the fault's number, as cizhmolat.h lists them
+    place     the byte of a fault of the text, the choice of a projection's, and else 0
 
-    def __init__(self, number: int, place: int) -> None:
-        super().__init__(number, place)  # of which pickle and copy make it again
+    Of a projection, where there was memory to look for them, and else None and []:
+
+    role      the role without a local type
+    sender    who makes the choice in which it doesn't do the same in all branches
+    receiver  who is told of that
+    labels    the labels of the branches"""
+
+    def __init__(self, number: int, place: int, role: str | None = None, sender: str | None = None, receiver: str | None = None,
+                 *labels: str) -> None:
+        super().__init__(number, place, role, sender, receiver, *labels)  # of which pickle and copy make it again
         self.number, self.place = number, place
+        self.role, self.sender, self.receiver, self.labels = role, sender, receiver, list(labels)
         if number < 32:
             self.word = TEXTS[number - 16]
-        elif number < 48:
+        elif number < PROJECTION:
             self.word = PROTOCOLS[number - 32]
         else:
             self.word = "projection"
@@ -78,9 +89,12 @@ class BadProtocol(Error):
     def __str__(self) -> str:
         if self.number < 32:
             return f"text {self.word} {self.place}"
-        if self.number < 48:
+        if self.number < PROJECTION:
             return f"protocol {self.word}"
-        return f"projection of role number {self.number - 48}, choice {self.place}"
+        if self.role is None:
+            return f"projection of role number {self.number - PROJECTION}, choice {self.place}"
+        return (f"`{self.role}` takes no part in the choice between `{self.sender}` and `{self.receiver}`, and doesn't do the same in "
+                f"all branches: `{'`, `'.join(self.labels)}`")
 
 
 class BadFile(Error):
@@ -156,6 +170,7 @@ def library() -> ctypes.CDLL:
     size, text, place = ctypes.c_size_t, ctypes.c_char_p, ctypes.c_void_p
     calls: tuple[tuple[str, Any, list[Any]], ...] = (
         ("mps_open", ctypes.c_bool, [text, size, place, ctypes.POINTER(ctypes.c_uint32), ctypes.POINTER(ctypes.c_uint64)]),
+        ("mps_choice", size, [text, size, ctypes.c_uint64, place, size]),
         ("mps_open_file", ctypes.c_bool, [text, size, text, size, ctypes.c_uint64, ctypes.c_uint32, place,
                                           ctypes.POINTER(ctypes.c_uint32), ctypes.POINTER(ctypes.c_uint64)]),
         ("mps_sync", ctypes.c_bool, [place]),
@@ -177,12 +192,24 @@ def coded(text: str | bytes) -> bytes:
     return text.encode() if isinstance(text, str) else text
 
 
-def room_fault(number: int, place: int, file: Any) -> Error:
-    """Why there is no room, by the number and the place that the library tells."""
+def unmerged(text: bytes, role: int, choice: int) -> list[str]:
+    """The names of a projection's fault: the role, who chooses, who is told, and the labels. There are none where memory ran out."""
+    block = ctypes.create_string_buffer(18 * 33)  # of two roles and 16 labels at most, with 32 letters each at most
+    length = LIBRARY.mps_choice(text, len(text), choice, block, len(block))
+    if length == NO_MEMORY:
+        return []
+    roles = re.findall("[a-z0-9_]+", str(text, "ascii"))[1:]  # and then other words: a text begins with `roles` and these
+    return [roles[role], *str(block.raw[:length], "ascii").split()]
+
+
+def room_fault(number: int, place: int, text: bytes, file: Any) -> Error:
+    """Why there is no room of the text, by the number and the place that the library tells."""
     if number == 1:
         return NoMemory("there is no memory for a room")
-    if number < ELSEWHERE:
+    if number < PROJECTION:
         return BadProtocol(number, place)
+    if number < ELSEWHERE:
+        return BadProtocol(number, place, *unmerged(text, number - PROJECTION, place))
     path = os.fsdecode(file)
     if number == ELSEWHERE:
         return FileInUse(path)
@@ -218,7 +245,7 @@ class Room:
             path, flags = os.fsencode(file), SYNC if sync else 0
             is_open = LIBRARY.mps_open_file(text, len(text), path, len(path), count(session), flags, self._at, fault, place)
         if not is_open:
-            raise room_fault(fault.value, place.value, file)
+            raise room_fault(fault.value, place.value, text, file)
 
     def __enter__(self) -> Room:
         return self

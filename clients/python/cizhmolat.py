@@ -35,9 +35,10 @@ it does the same, with a new Role. Such an answer says what was so when the comm
 back since, which `resumed.survives` and `news` tell.
 
 A program that keeps no such books calls `settle` when it is started again, and then asks `standing`, which says what the
-protocol wants of the role next, which values it keeps, and which steps it did, with the labels that it chose and picked.
-Without `settle` a new command that is spelled like the one under way would be taken for it: it would get the old answer, and
-not be run.
+protocol wants of the role next, which values it keeps, and which steps it did, with the labels that it chose and picked. At a
+server with --wait `stand` tells the same in one short line, of the steps only the newest, however many there are. Without
+`settle` a new command that is spelled like the one under way would be taken for it: it would get the old answer, and not be
+run.
 
 **Steps that others took back.** Where others take back steps of a role, these are its last ones, from a receipt or a pick on,
 and it stands at that one again. A send or a choice that was meant for a later place is then refused, as WrongAct, an undo or a
@@ -99,7 +100,7 @@ TEXT = re.compile(r"[ !#-\[\]-~]{0,256}")
 ANSWER = re.compile(r"(?:done|undone|news|joined|refused)\b.*|\{.*\}")  # what any answer looks like
 DONE, UNDONE = r"done (\d+)", r"undone((?: \d+)*)"  # answers to a step forward, and to steps back
 NOTHING_YET = re.compile(r"refused nothingqueued|news \d+")  # what is answered while others have still to act
-QUESTIONS = ("news", "show")  # which change nothing, and have no number
+QUESTIONS = ("news", "show", "stand")  # which change nothing, and have no number
 FULL = 100_000  # entries that a journal has at most
 LONGEST = 2_000_000  # seconds that each system takes as a limit: 23 days
 Selector: Any = getattr(selectors, "PollSelector", selectors.SelectSelector)  # what costs least for one socket
@@ -305,6 +306,14 @@ class Standing(NamedTuple):
     steps: list[Step]
 
 
+class Stand(NamedTuple):
+    """What the protocol wants of the role next, as in Standing; its newest surviving step, or None where it has none; and what its
+    slots keep."""
+    expects: str
+    newest: Step | None
+    store: dict[str, Value]
+
+
 class Answered(NamedTuple):
     """A command that was accepted, while its answer may not have been seen, and the answer. The command is None where no
     file tells it. `survives` says whether the answer's step survived when the newest number was last found out: others may
@@ -363,6 +372,11 @@ def read(command: str, answer: str, form: str) -> re.Match[str]:
     if found is None:
         raise NotUnderstood(f"{answer!r}, to {command}")
     return found
+
+
+def shown_step(number: int, _: str, act: str, *parts: Any) -> Step:
+    """A step of the role, as it is shown."""
+    return Step(number, act, **dict(zip(PARTS[act], parts)))
 
 
 def pauses(least: float, most: float) -> Iterator[float]:
@@ -646,6 +660,15 @@ class Calls:
     async def _show(self) -> dict[str, Any]:
         return self._read_shown((await self._ask("show", math.inf))[0])
 
+    async def _stand(self) -> Stand:
+        told = self._read_shown((await self._ask("stand", math.inf))[0], "stand")
+        try:
+            newest = told["newest"]
+            return Stand(told["expects"], None if newest is None else shown_step(*newest), dict(told["store"]))
+        except (LookupError, TypeError, ValueError):
+            self._drop()
+            raise NotUnderstood(f"{told}, to stand") from None
+
     async def _standing(self) -> Standing:
         question = f"news {self._heard}"
         told, shown = await self._ask(question, math.inf, "show")
@@ -658,9 +681,9 @@ class Calls:
         found = self._understood(question, answer, r"news (\d+)((?: \d+)*)")
         return News(int(found[1]), steps(found[2]))
 
-    def _read_shown(self, answer: str) -> dict[str, Any]:
-        """The session of an answer to `show`."""
-        text = self._understood("show", answer, r"\{.*\}")[0]
+    def _read_shown(self, answer: str, question: str = "show") -> dict[str, Any]:
+        """What is shown in an answer to `show` or `stand`."""
+        text = self._understood(question, answer, r"\{.*\}")[0]
         try:
             return dict(json.loads(text))
         except ValueError:
@@ -671,8 +694,7 @@ class Calls:
         """How the role stands in a session that is shown."""
         try:
             own = next(it for it in shown["roles"] if it["role"] == self.role)
-            steps = [Step(number, act, **dict(zip(PARTS[act], parts)))
-                     for number, role, act, *parts in shown["history"] if role == self.role]
+            steps = [shown_step(*it) for it in shown["history"] if it[1] == self.role]
             return Standing(own["expects"], own["past"], dict(own["store"]), steps)
         except (LookupError, StopIteration, TypeError, ValueError):
             self._drop()
@@ -986,6 +1008,11 @@ class Role(Calls):
     def standing(self) -> Standing:
         """How the role stands in the session. A program that is started again, and goes on by this, calls `settle` first."""
         return now(self._standing())
+
+    def stand(self) -> Stand:
+        """The same, of its steps only the newest: a short answer, however long the session is. What others took back it doesn't tell,
+        as `show` doesn't. A server without --wait can't read the question: UnreadableLine is raised."""
+        return now(self._stand())
 
     # --- Lines ---
 

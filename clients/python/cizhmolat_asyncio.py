@@ -25,7 +25,7 @@ import selectors
 from collections.abc import Callable, Coroutine, Generator
 from typing import Any, TypeVar
 
-from cizhmolat import Answered, Calls, Need, News, Picked, Received, Standing, Value, count, left, name, spelled
+from cizhmolat import Answered, Calls, Need, News, Picked, Received, Stand, Standing, Value, count, left, name, spelled
 
 __all__ = ["Role"]
 
@@ -141,6 +141,10 @@ class Role(Calls):
     async def standing(self) -> Standing:
         """How the role stands in the session."""
         return await later(self._standing())
+
+    async def stand(self) -> Stand:
+        """The same, of its steps only the newest, at a server with --wait."""
+        return await later(self._stand())
 
     async def settle(self) -> Answered | None:
         """Lets go of the command under way."""

@@ -1,14 +1,14 @@
 /* memory FILE SCRIPT: runs a script on a room of a protocol again and again, and each time refuses another request for memory,
  * or all from one on until the room tells it. Each line then has the answer with ample memory; or `refused memory`, and it is
- * given again; or no memory for its answer's text, which is asked for again. In the end the entries are those of the run with
- * ample memory, and nothing is left of the room. It prints how often each came.
+ * given again; or no memory for its answer's text, which is asked for again. In the end the entries and the protocol's first
+ * choice are those of the run with ample memory, and nothing is left of the room. It prints how often each came.
  *
  * It is linked with --wrap for malloc, realloc and free, so that it sees each request of the library. */
 #include <inttypes.h>
 
 #include "texts.h"
 
-enum { MOST = 1 << 20, LINES = 4096 };
+enum { MOST = 1 << 20, LINES = 4096, MARK = 0xAA };
 
 void *__real_malloc(size_t size);
 void *__real_realloc(void *old, size_t size);
@@ -16,7 +16,7 @@ void __real_free(void *block);
 
 /* the requests so far, those that are refused, and the blocks that are there */
 static long requests, first, last = -1, blocks;
-/* the texts of the run with ample memory: an answer for each line, and then the entries */
+/* the texts of the run with ample memory: an answer for each line, then the entries, and the choice */
 static text wanted[LINES];
 static size_t count, lines;
 static long refused, no_text, not_opened;
@@ -82,6 +82,17 @@ static void run_line(mps_room *room, size_t at, text role, text command, bool is
     judge(at, length, is_first);
 }
 
+/* Asks for the first choice, once more where there was no memory for it, and nothing was written. */
+static size_t choice_told(text protocol) {
+    out[0] = MARK;
+    size_t length = mps_choice(protocol.at, protocol.length, 0, out, MOST);
+    if (length != SIZE_MAX) return length;
+    if (out[0] != MARK) stop("a choice was written without memory");
+    no_text += 1;
+    relent();
+    return mps_choice(protocol.at, protocol.length, 0, out, MOST);
+}
+
 /* Runs the script; the first time its texts are kept. */
 static void run(text protocol, text script, bool is_first) {
     mps_room room = {NULL};
@@ -106,7 +117,8 @@ static void run(text protocol, text script, bool is_first) {
         }
         judge(lines + k, length, is_first);
     }
-    if (lines + entries != count) stop("there are other entries");
+    judge(lines + entries, choice_told(protocol), is_first);
+    if (lines + entries + 1 != count) stop("there are other entries");
     mps_close(&room);
     if (blocks != 0) stop("a block is left of the room");
 }

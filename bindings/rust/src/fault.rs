@@ -4,6 +4,8 @@
 use std::error::Error;
 use std::fmt;
 
+use crate::Room;
+
 /// Why [`Room::open`](crate::Room::open) gives no room.
 #[derive(Clone, Copy, Debug, PartialEq, Eq, Hash)]
 pub enum OpenError {
@@ -18,11 +20,11 @@ pub enum OpenError {
     },
     /// The text is read, and spells a protocol with a fault.
     Protocol(ProtocolFault),
-    /// A role has no local type.
+    /// A role has no local type. [`explained`](OpenError::explained) says it with names.
     Projection {
         /// The place of the role in the order of `roles`, from 0.
         role: u32,
-        /// The choice whose branches the role can't tell apart.
+        /// The choice whose branches the role can't tell apart, as [`Room::choice`] counts them.
         choice: u64,
     },
     /// The library tells a number that this crate doesn't know, so it is of another version.
@@ -75,6 +77,17 @@ pub enum ProtocolFault {
     Unguarded,
 }
 
+/// A choice of a protocol.
+#[derive(Clone, Debug, PartialEq, Eq, Hash)]
+pub struct Choice {
+    /// Who chooses.
+    pub sender: String,
+    /// Who is told.
+    pub receiver: String,
+    /// The labels of the branches.
+    pub labels: Vec<String>,
+}
+
 const TEXTS: [(TextFault, &str); 6] = [
     (TextFault::TooLong, "toolong"),
     (TextFault::Word, "word"),
@@ -116,6 +129,60 @@ impl OpenError {
             },
             _ => OpenError::Unknown(number),
         }
+    }
+
+    /// What is wrong with the text that gave no room, in a sentence. Of a projection it has the names that the text has for
+    /// the role, the choice and its labels; else it is that of [`Display`](fmt::Display).
+    ///
+    /// ```
+    /// use cizhmolat::Room;
+    ///
+    /// let text = "roles a b c ; a -> b { l : a -> c : int . end , r : end }";
+    /// assert_eq!(
+    ///     Room::open(text).unwrap_err().explained(text),
+    ///     "`c` takes no part in the choice between `a` and `b`, and doesn't do the same in all branches: `l`, `r`"
+    /// );
+    /// ```
+    pub fn explained(&self, text: impl AsRef<[u8]>) -> String {
+        let text = text.as_ref();
+        self.named(text).unwrap_or_else(|| self.to_string())
+    }
+
+    /// The sentence with names, where the fault is a projection's, and there was memory to read the text once more.
+    fn named(&self, text: &[u8]) -> Option<String> {
+        let OpenError::Projection { role, choice } = *self else {
+            return None;
+        };
+        let role = role_of(text, role)?;
+        let Choice {
+            sender,
+            receiver,
+            labels,
+        } = Room::choice(text, choice).ok()??;
+        Some(format!(
+            "`{role}` takes no part in the choice between `{sender}` and `{receiver}`, and doesn't do the same in all \
+             branches: `{}`",
+            labels.join("`, `")
+        ))
+    }
+}
+
+/// The name of the role at that place, from 0, in a text that can be read: the roles are the words behind the first one.
+fn role_of(text: &[u8], place: u32) -> Option<&str> {
+    let ends_word = |byte: &u8| !byte.is_ascii_alphanumeric() && *byte != b'_';
+    let mut words = text.split(ends_word).filter(|word| !word.is_empty());
+    std::str::from_utf8(words.nth(place as usize + 1)?).ok()
+}
+
+impl Choice {
+    /// The choice of these words, unless there are none.
+    pub(crate) fn of(words: &str) -> Option<Choice> {
+        let mut words = words.split(' ').map(str::to_owned);
+        Some(Choice {
+            sender: words.next()?,
+            receiver: words.next()?,
+            labels: words.collect(),
+        })
     }
 }
 

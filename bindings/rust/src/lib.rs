@@ -37,7 +37,7 @@ use std::str::FromStr;
 
 pub use answer::{Answer, Error, NoMemory, NoValue, Refusal, Value};
 pub use expects::{Expects, NothingExpected, Sort};
-pub use fault::{OpenError, ProtocolFault, TextFault};
+pub use fault::{Choice, OpenError, ProtocolFault, TextFault};
 pub use file::{FileError, FileOptions, LineFault, NotStored};
 
 /// A room with a session of a protocol.
@@ -72,7 +72,8 @@ pub struct Room {
 unsafe impl Send for Room {}
 
 impl Room {
-    /// Opens a room with a new session of the protocol that the text spells.
+    /// Opens a room with a new session of the protocol that the text spells. [`OpenError::explained`] says most of why there is
+    /// none.
     ///
     /// ```
     /// use cizhmolat::{OpenError, Room, TextFault};
@@ -111,6 +112,29 @@ impl Room {
     /// ```
     pub fn open_file(text: impl AsRef<[u8]>, path: impl AsRef<Path>) -> Result<Room, FileError> {
         FileOptions::new().open(text, path)
+    }
+
+    /// The choice of that number of the protocol that the text spells, as [`OpenError::Projection`] has it: counted from 0, in
+    /// the order in which choices begin in the text. Nothing is told where the text can't be read, or has not so many.
+    ///
+    /// ```
+    /// use cizhmolat::{OpenError, Room};
+    ///
+    /// let text = "roles a b c ; a -> b { l : a -> c : int . end , r : end }";
+    /// let fault = Room::open(text).unwrap_err();
+    /// assert_eq!(fault, OpenError::Projection { role: 2, choice: 0 });
+    /// let choice = Room::choice(text, 0)?.expect("a choice");
+    /// assert_eq!((&*choice.sender, &*choice.receiver), ("a", "b"));
+    /// assert_eq!(choice.labels, ["l", "r"]);
+    /// # Ok::<(), cizhmolat::NoMemory>(())
+    /// ```
+    pub fn choice(text: impl AsRef<[u8]>, number: u64) -> Result<Option<Choice>, NoMemory> {
+        let text = text.as_ref();
+        let words = whole_text(|out, capacity| {
+            // SAFETY: the text is a slice, and `whole_text` lends its own.
+            unsafe { sys::mps_choice(text.as_ptr(), text.len(), number, out, capacity) }
+        })?;
+        Ok(Choice::of(&words))
     }
 
     /// The room that the call opens, or the number and the place of the fault that it tells.
@@ -299,22 +323,13 @@ impl Room {
         Ok((!entry.is_empty()).then_some(entry))
     }
 
-    /// The whole text that the call gives of an open room, which it doesn't change: it writes as much as fits into a slice, and
-    /// gives the length of the whole.
+    /// The whole text that the call gives of an open room, which it doesn't change.
     fn text_of(
         &self,
         call: impl Fn(*mut sys::Handle, *mut u8, usize) -> usize,
     ) -> Result<String, NoMemory> {
-        let mut text = Vec::new();
-        loop {
-            // no other call of the handle is under way: the room isn't `Sync`
-            let length = call(self.handle.get(), text.as_mut_ptr(), text.len());
-            if length <= text.len() {
-                text.truncate(length);
-                return Ok(String::from_utf8(text).expect("a text of the library is ASCII"));
-            }
-            grow(&mut text, length)?;
-        }
+        // no other call of the handle is under way: the room isn't `Sync`
+        whole_text(|out, capacity| call(self.handle.get(), out, capacity))
     }
 
     /// The whole newest answer, of which the length is told, and which was written where it fitted.
@@ -331,6 +346,19 @@ impl Room {
             };
         }
         Ok(std::str::from_utf8(&self.text[..length]).expect("an answer is ASCII"))
+    }
+}
+
+/// The whole text that the call gives, which writes as much as fits into a slice, and gives the length of the whole.
+fn whole_text(call: impl Fn(*mut u8, usize) -> usize) -> Result<String, NoMemory> {
+    let mut text = Vec::new();
+    loop {
+        let length = call(text.as_mut_ptr(), text.len());
+        if length <= text.len() {
+            text.truncate(length);
+            return Ok(String::from_utf8(text).expect("a text of the library is ASCII"));
+        }
+        grow(&mut text, length)?;
     }
 }
 

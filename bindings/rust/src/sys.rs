@@ -23,6 +23,13 @@ extern "C" {
         fault: *mut u32,
         place: *mut u64,
     ) -> bool;
+    pub(crate) fn mps_choice(
+        text: *const u8,
+        length: usize,
+        number: u64,
+        out: *mut u8,
+        capacity: usize,
+    ) -> usize;
     pub(crate) fn mps_open_file(
         text: *const u8,
         length: usize,

@@ -1,7 +1,7 @@
 // SPDX-License-Identifier: MIT OR Apache-2.0
 //! A room as a caller sees it: each form of an answer, each refusal that a room gives, and each fault of a protocol.
 
-use cizhmolat::{Answer, Error, OpenError, ProtocolFault, Refusal, Room, TextFault, Value};
+use cizhmolat::{Answer, Choice, Error, OpenError, ProtocolFault, Refusal, Room, TextFault, Value};
 
 const RELAY: &str = "roles a b c ; a -> b : int . b -> c : int . end";
 const LOOP: &str = "roles a b ; rec X . a -> b { go : b -> a : text . X , stop : end }";
@@ -186,6 +186,46 @@ fn each_kind_of_a_fault() {
     assert_eq!(
         text(TextFault::Word, 17).to_string(),
         "the text has a fault at byte 17: word"
+    );
+}
+
+#[test]
+fn the_choice_of_a_projection() {
+    let text = "roles a b c d;\na->b{ l : c -> d : int . b -> a { m : a -> c : int . end , n : end } , r : end }";
+    let fault = Room::open(text).unwrap_err();
+    assert_eq!(fault, OpenError::Projection { role: 2, choice: 1 });
+    assert_eq!(
+        fault.explained(text),
+        "`c` takes no part in the choice between `b` and `a`, and doesn't do the same in all branches: `m`, `n`"
+    );
+    for (number, sender, receiver, labels) in [(0, "a", "b", ["l", "r"]), (1, "b", "a", ["m", "n"])]
+    {
+        let choice = Choice {
+            sender: sender.into(),
+            receiver: receiver.into(),
+            labels: labels.map(String::from).into(),
+        };
+        assert_eq!(Room::choice(text, number), Ok(Some(choice)));
+    }
+    let unread = "roles a b ; a -> b { l : end , r";
+    for (text, number) in [
+        (text, 2),
+        (text, u64::MAX),
+        (unread, 0),
+        ("", 0),
+        (RELAY, 0),
+    ] {
+        assert_eq!(Room::choice(text, number), Ok(None), "{text} {number}");
+    }
+    // where the text isn't the one that was refused, and hasn't such a role or choice
+    for other in [RELAY, unread, "", "roles"] {
+        assert_eq!(fault.explained(other), fault.to_string(), "{other}");
+    }
+    let fault = Room::open(unread).unwrap_err();
+    assert_eq!(fault.explained(unread), fault.to_string());
+    assert_eq!(
+        fault.to_string(),
+        "the text has a fault at byte 32: unexpected"
     );
 }
 

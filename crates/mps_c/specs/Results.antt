@@ -1,7 +1,9 @@
 -- What a caller in C is told.
-use Rattle.std.specs.Prelude.{◌≡◌, ℕ, ◌-◌, ◌^◌, ◌⊎◌, Bool, true, false, List, Result, Ok, Err}
+use Rattle.std.specs.Prelude.{◌≡◌, ℕ, ◌<◌, ◌≤◌, ◌-◌, ◌^◌, ◌⊎◌, Bool, true, false, List, Result, Ok, Err}
 use Rattle.std.specs.declared.alloc.AllocError.{AllocError}
 use Rattle.mps_embed.specs.Embedded.{EmbeddedState, IsFilled, IsNewRoomOf}
+use Rattle.mps_embed.specs.Kept.{GivesNoRoom, IsFilePlace, IsKeptRoomOf, IsUnusable, file_number}
+use Rattle.mps_embed.specs.declared.kept.FileFault.{FileFault}
 use Rattle.mps_open.specs.Faults.{GivesNoSession, number_of, place_of}
 use Rattle.mps_open.specs.declared.fault.Fault.{Fault}
 
@@ -24,3 +26,11 @@ abbrev pub Opens : (text : List ℕ) → (opened : Bool) → (number place : ℕ
 Opens text true number place = (room : EmbeddedState) × IsNewRoomOf text room
 Opens text false number place =
     (fault : Fault) × GivesNoSession text fault × (number ≡ number_of fault) × (place ≡ place_of fault)
+
+-- there is a room of the protocol that the text spells, which its file records; or there is none, and the number and the
+-- place are those of the fault, which is the text's or the file's; flags that aren't known open none
+abbrev pub OpensKept : (text : List ℕ) → (flags : ℕ) → (opened : Bool) → (number place : ℕ) → Type 0
+OpensKept text flags true number place = (flags ≤ 1) × (room : EmbeddedState) × IsKeptRoomOf text room
+OpensKept text flags false number place =
+    (fault : FileFault) × (flags ≤ 1 → GivesNoRoom text fault) × (1 < flags → IsUnusable fault)
+    × (number ≡ file_number fault) × IsFilePlace fault place

@@ -1,6 +1,11 @@
 //! What the exports call: safe code over the room.
-ghost use Rattle.std.specs.Prelude.{◌≡◌, ◌≢◌, ℕ, ◌≤◌, true, false, Some, None, All, [], length, slice_get, IfOk, IfErr};
+ghost use Rattle.std.specs.Prelude.{◌≡◌, ◌≢◌, ℕ, ◌<◌, ◌≤◌, true, false, Some, None, All, [], length, slice_get, IfOk, IfErr, OnOk};
 ghost use Rattle.mps_embed.specs.Embedded.{IsAnswered, IsForesight, IsInSlot, IsNewRoomOf, IsOnlyTold, IsWanted};
+ghost use Rattle.mps_embed.specs.Embedded.{newest_at};
+ghost use Rattle.mps_keeper.specs.Trails.{RecordedOn};
+ghost use Rattle.mps_room.specs.Callers.{entries_of};
+ghost use Rattle.mps_room.specs.Numbers.{last_of};
+ghost use Rattle.mps_embed.specs.Kept.{GivesNoRoom, IsChoiceTold, IsKeptRoomOf, IsStored, IsUnusable};
 ghost use Rattle.mps_line.specs.JournalLines.{SpellsJournalLine};
 ghost use Rattle.mps_line.specs.Replies.{SpellsReply};
 ghost use Rattle.mps_line.specs.declared.write_replies.Reply.TheVariants.{NoRole as Nobody, Unkept as Lost};
@@ -8,7 +13,7 @@ ghost use Rattle.mps_open.specs.Faults.{GivesNoSession};
 ghost use Rattle.mps_room.specs.declared.entry.Entry.{Entry as Kept};
 ghost use Rattle.mps_c.specs.Results.{IsFilledOrLeft, length_of};
 
-use mps_embed::{FileFault, FileOf, FileRoom};
+use mps_embed::{FileFault, FileOf, FileRoom, choice_into};
 use mps_open::Fault;
 use std::alloc::{AllocError, Global};
 use std::io;
@@ -51,7 +56,12 @@ pub fn open_file(
     path: &[u8],
     session: u64,
     flags: u32,
-) -> Result<Box<FileRoom>, FileFault> {
+) -> Result<Box<FileRoom>, FileFault>
+    ensures opened { IfOk result (λ made. IsKeptRoomOf text.now made.value) }
+    ensures known { OnOk result (flags ≤ 1) }
+    ensures fault { flags ≤ 1 → IfErr result (GivesNoRoom text.now) }
+    ensures flags { 1 < flags → IfErr result IsUnusable }
+{
     if flags > SYNC {
         return Err(FileFault::Unusable(io::Error::from(ErrorKind::InvalidInput)));
     }
@@ -67,8 +77,18 @@ pub fn open_file(
     }
 }
 
+/// Copies as much as fits of the words of that choice of the protocol that the text spells, and returns the length of the
+/// whole in bytes, 0 where there is none, or `NO_MEMORY`, with `out` unchanged.
+pub fn choice(alloc: Global, text: &[u8], number: u64, out: &mut [u8]) -> usize
+    ensures { IsFilledOrLeft (IsChoiceTold text.now number) out.old out.new result }
+{
+    length_or_none(choice_into(alloc, text, number, out))
+}
+
 /// Has the disk store all that was answered so far. Says whether it is stored.
-pub fn sync(room: &mut FileRoom) -> bool {
+pub fn sync(room: &mut FileRoom) -> bool
+    ensures { IsStored room.old result room.new }
+{
     room.sync()
 }
 
@@ -106,6 +126,12 @@ pub fn line(room: &mut FileRoom, role: &[u8], line: &[u8], out: &mut [u8]) -> us
         → room.old.whole ≡ true → IsAnswered room.old place line.now room.new }
     ensures lost { (place : ℕ) → slice_get room.old.room.names place ≡ Some role.now
         → room.old.whole ≡ false → IsOnlyTold Lost room.old room.new }
+    ensures recorded { (place : ℕ) → slice_get room.old.room.names place ≡ Some role.now
+        → room.old.records ≡ true → room.new.whole ≡ true
+        → RecordedOn room.old.room.names room.old.taken room.new.taken (last_of (newest_at room.old place))
+        (last_of (newest_at room.new place)) (entries_of place room.old.room.journal)
+        (entries_of place room.new.room.journal) }
+    ensures records { room.new.records ≡ room.old.records }
     ensures idle { room.old.records ≡ false → room.new.whole ≡ room.old.whole }
     ensures unknown { All (λ name. name ≢ role.now) room.old.room.names → IsOnlyTold Nobody room.old room.new }
     ensures answer { IsFilledOrLeft (λ text. SpellsReply text room.new.reply) out.old out.new result }

@@ -3,13 +3,17 @@
 
 ghost use Rattle.std.specs.Prelude.{◌≡◌, ◌≢◌, ℕ, ◌≤◌, true, false, Some, None, All, [], length, slice_get};
 ghost use types.Logic.{sem};
-ghost use Rattle.mps_embed.specs.Embedded.{IsAnswered, IsForesight, IsInSlot, IsOnlyTold, IsWanted};
+ghost use Rattle.mps_embed.specs.Embedded.{IsAnswered, IsForesight, IsInSlot, IsOnlyTold, IsWanted, newest_at};
+ghost use Rattle.mps_embed.specs.Kept.{IsChoiceTold, IsStored};
 ghost use Rattle.mps_line.specs.JournalLines.{SpellsJournalLine};
 ghost use Rattle.mps_line.specs.Replies.{SpellsReply};
 ghost use Rattle.mps_line.specs.declared.write_replies.Reply.TheVariants.{NoRole as Nobody, Unkept as Lost};
+ghost use Rattle.mps_keeper.specs.Trails.{RecordedOn};
+ghost use Rattle.mps_room.specs.Callers.{entries_of};
+ghost use Rattle.mps_room.specs.Numbers.{last_of};
 ghost use Rattle.mps_room.specs.declared.entry.Entry.{Entry as Kept};
 ghost use Rattle.mps_c.specs.Handle.{handle_owns, RoomValue, the_code};
-ghost use Rattle.mps_c.specs.Results.{IsFilledOrLeft, Opens};
+ghost use Rattle.mps_c.specs.Results.{IsFilledOrLeft, Opens, OpensKept};
 
 use mps_embed::FileRoom;
 use std::alloc::Global;
@@ -86,6 +90,7 @@ pub extern "C" fn mps_open_file(
     fault: &mut u32,
     place: &mut u64,
 ) -> bool
+    ensures opened { OpensKept text.now flags result fault.new place.new }
     ensures kept { result ≡ false → room.new ≡ room.old }
     ensures untold { result ≡ true → (fault.new ≡ fault.old) × (place.new ≡ place.old) }
 {
@@ -102,10 +107,22 @@ pub extern "C" fn mps_open_file(
     }
 }
 
+/// Copies as much as fits of the words of that choice of the protocol that the text spells, counted from 0 as the place of
+/// faults 48 to 55, with a space between two: who chooses, who is told, and the labels. Returns the length of the whole in
+/// bytes, 0 where the text can't be read or has not so many choices, or SIZE_MAX when out of memory, with `out` unchanged.
+#[unsafe(no_mangle)]
+pub extern "C" fn mps_choice(alloc: Global, text: &[u8], number: u64, out: &mut [u8]) -> usize
+    ensures { IsFilledOrLeft (IsChoiceTold text.now number) out.old out.new result }
+{
+    calls::choice(alloc, text, number, out)
+}
+
 /// Has the disk store all that was answered so far, where the room has a file. Where it doesn't this is `false`, and the room
 /// runs no more lines.
 #[unsafe(no_mangle)]
-pub extern "C" fn mps_sync(handle: &mut Handle) -> bool {
+pub extern "C" fn mps_sync(handle: &mut Handle) -> bool
+    ensures { IsStored handle.old.room result handle.new.room }
+{
     calls::sync(handle.room())
 }
 
@@ -148,6 +165,12 @@ pub extern "C" fn mps_line(handle: &mut Handle, role: &[u8], line: &[u8], out: &
         → handle.old.room.whole ≡ true → IsAnswered handle.old.room place line.now handle.new.room }
     ensures lost { (place : ℕ) → slice_get handle.old.room.room.names place ≡ Some role.now
         → handle.old.room.whole ≡ false → IsOnlyTold Lost handle.old.room handle.new.room }
+    ensures recorded { (place : ℕ) → slice_get handle.old.room.room.names place ≡ Some role.now
+        → handle.old.room.records ≡ true → handle.new.room.whole ≡ true
+        → RecordedOn handle.old.room.room.names handle.old.room.taken handle.new.room.taken
+        (last_of (newest_at handle.old.room place)) (last_of (newest_at handle.new.room place))
+        (entries_of place handle.old.room.room.journal) (entries_of place handle.new.room.room.journal) }
+    ensures records { handle.new.room.records ≡ handle.old.room.records }
     ensures idle { handle.old.room.records ≡ false → handle.new.room.whole ≡ handle.old.room.whole }
     ensures unknown { All (λ name. name ≢ role.now) handle.old.room.room.names
         → IsOnlyTold Nobody handle.old.room handle.new.room }
@@ -190,7 +213,7 @@ pub extern "C" fn mps_entry(handle: &mut Handle, k: u64, out: &mut [u8]) -> usiz
     calls::entry(handle.room(), k, out)
 }
 
-/// Drops the room at this pointer, which `mps_open` stored, and frees its memory. Unsafe: the pointer has to own a
+/// Drops the room at this pointer, which `mps_open` or `mps_open_file` stored, and frees its memory. Unsafe: the pointer has to own a
 /// room, and no call may come with it afterwards.
 #[unsafe(no_mangle)]
 pub unsafe extern "C" fn mps_close_at(alloc: Global, room: *mut u8)

@@ -88,6 +88,8 @@ pub enum Command {
     News(u64),
     /// Show the session.
     Show,
+    /// Tell how the role itself stands.
+    Stand,
 }
 
 impl Command {
@@ -102,6 +104,7 @@ impl Command {
             Command::Back(mark) => Command::Back(*mark),
             Command::News(known) => Command::News(*known),
             Command::Show => Command::Show,
+            Command::Stand => Command::Stand,
         })
     }
 }

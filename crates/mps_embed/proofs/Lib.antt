@@ -4,3 +4,4 @@ mod Speaking
 mod Crossing
 mod Ends
 mod Foreseeing
+mod Opening

@@ -34,11 +34,11 @@ module _ (before after : EmbeddedState) (role : ℕ) (line : List ℕ) (reply : 
       → caller.room ≡ first.room → caller.role ≡ role → role < length are
       → slice_get (slice_set were first.role first.numbers) role ≡ Some caller.numbers
       → slice_set are caller.role caller.numbers ≡ slice_set were first.role first.numbers
-      → RepliesTo ghosts line caller reply left → after.reply ≡ (if after.whole then reply else Unkept)
+      → RepliesTo ghosts false line caller reply left → after.reply ≡ (if after.whole then reply else Unkept)
       → after.room ≡ left.room → after.numbers ≡ slice_set are left.role left.numbers
       → IsAnswered before role line after
   answered room_is numbers_are same_room turned within own same replies told left_room left_numbers =
-      let spoke : left.role ≡ role = reply_keeps ghosts (λ (s : Solo). s.role) same_role line caller reply left replies ∙ turned in
+      let spoke : left.role ≡ role = reply_keeps ghosts (λ (s : Solo). s.role) same_role false line caller reply left replies ∙ turned in
       let ends : slice_get after.numbers role ≡ Some left.numbers =
       ap (λ (l : List Numbers). slice_get l role) left_numbers
       ∙ subst (λ (r : ℕ). slice_get (slice_set are r left.numbers) role ≡ Some left.numbers) (sym spoke) (get_set_same are role left.numbers within) in
@@ -61,13 +61,13 @@ module _ (before after : EmbeddedState) (role : ℕ) (line : List ℕ) (reply : 
   pub recorded_so : before.room ≡ first.room → before.numbers ≡ slice_set were first.role first.numbers
       → caller.room ≡ first.room → caller.role ≡ role → role < length are
       → slice_get (slice_set were first.role first.numbers) role ≡ Some caller.numbers
-      → RepliesTo ghosts line caller reply left
+      → RepliesTo ghosts false line caller reply left
       → after.room ≡ left.room → after.numbers ≡ slice_set are left.role left.numbers
       → (taken : Option Sealed) → before.taken ≡ taken
       → RecordedOn (names_of caller) taken after.taken (last_of caller.numbers.newest) (last_of left.numbers.newest) (made_of caller) (made_of left)
       → RecordedOn before.room.names before.taken after.taken (last_of (newest_at before role)) (last_of (newest_at after role)) (entries_of role before.room.journal) (entries_of role after.room.journal)
   recorded_so room_is numbers_are same_room turned within own replies left_room left_numbers taken taken_is recorded =
-      let spoke : left.role ≡ role = reply_keeps ghosts (λ (s : Solo). s.role) same_role line caller reply left replies ∙ turned in
+      let spoke : left.role ≡ role = reply_keeps ghosts (λ (s : Solo). s.role) same_role false line caller reply left replies ∙ turned in
       let began : newest_at before role ≡ caller.numbers.newest = ap (λ (l : List Numbers). option_and_then (λ (n : Numbers). n.newest) (slice_get l role)) numbers_are ∙ ap (option_and_then (λ (n : Numbers). n.newest)) own in
       let ends : newest_at after role ≡ left.numbers.newest =
       ap (λ (l : List Numbers). option_and_then (λ (n : Numbers). n.newest) (slice_get l role)) left_numbers

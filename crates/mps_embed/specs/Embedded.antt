@@ -55,7 +55,7 @@ pub record IsAnswered (before : EmbeddedState) (role : ℕ) (line : List ℕ) (a
   pub begins : IsCallerOf before role caller
   pub left : Solo
   pub reply : Reply
-  pub replies : RepliesTo ghosts line caller reply left
+  pub replies : RepliesTo ghosts false line caller reply left
   pub told : after.reply ≡ (if after.whole then reply else Unkept)
   pub ends : IsCallerOf after role left
   pub others : (other : ℕ) → other ≢ role → slice_get after.numbers other ≡ slice_get before.numbers other
@@ -94,28 +94,34 @@ module _ (e : EmbeddedState) (role : ℕ) (line : List ℕ) (foretold : Result U
   pub record HasNumberAt (position : Position) : Type 0 where
     pub number : ℕ
     pub command : Command
-    pub readable : IsRequest e.room.names line (Some number) command
+    pub readable : IsRequest false e.room.names line (Some number) command
     pub stands : IsPosition (last_of (newest_at e role)) number position
 
   -- it spells a command that is called, by its number, or without one: what it would be answered, lack of memory aside
   pub record IsJudged : Type 0 where
     pub number : Option ℕ
     pub command : Command
-    pub readable : IsRequest e.room.names line number command
+    pub readable : IsRequest false e.room.names line number command
     pub next : IsNext (newest_at e role) number
     pub judged :
         foretold ≡ foretold_of (refusal_of (answer_to e.room.names e.room.types e.room.journal role command))
 
-  pub data Foretells : Type 0 where
-    -- what changes the room isn't recorded any more
-    Lost : e.whole ≡ false → foretold ≡ Err Unkept → Foretells
+  -- of a room that isn't lost
+  pub data ForetellsWhole : Type 0 where
     -- it can't be read, or there is no memory for its text
-    Unread : (reply : Reply) → IsUnread (IsRequest e.room.names line) e reply e → foretold ≡ Err reply → Foretells
-    Starved : (reply : Reply) → IsStarved (IsRequest e.room.names line) e reply e → foretold ≡ Err reply → Foretells
+    Unread : (reply : Reply) → IsUnread (IsRequest false e.room.names line) e reply e → foretold ≡ Err reply
+        → ForetellsWhole
+    Starved : (reply : Reply) → IsStarved (IsRequest false e.room.names line) e reply e → foretold ≡ Err reply
+        → ForetellsWhole
     -- it has the last number: its answer would be told again
-    Again : HasNumberAt Last → foretold ≡ Ok tt → Foretells
-    Misnumbered : HasNumberAt Elsewhere → foretold ≡ Err WrongNumber → Foretells
-    Judged : IsJudged → Foretells
+    Again : HasNumberAt Last → foretold ≡ Ok tt → ForetellsWhole
+    Misnumbered : HasNumberAt Elsewhere → foretold ≡ Err WrongNumber → ForetellsWhole
+    Judged : IsJudged → ForetellsWhole
+
+  -- what changes a lost room isn't recorded any more
+  pub data Foretells : Type 0 where
+    Lost : e.whole ≡ false → foretold ≡ Err Unkept → Foretells
+    Whole : e.whole ≡ true → ForetellsWhole → Foretells
 
 -- how what is foreseen is told
 abbrev pub SpellsForesight : Result Unit Reply → List ℕ → Type 0

@@ -1,7 +1,7 @@
 //! What records a room's commands, where something does.
 ghost use Rattle.std.specs.Prelude.{◌≡◌, ◌<◌, ◌^◌, Bool, false, true, Option};
 ghost use Rattle.mps_embed.specs.Diaries.{book_of, intact_of};
-ghost use Rattle.std.specs.Option.{is_some};
+ghost use Rattle.std.specs.Option.{is_some, option_map};
 
 use mps_dev::Sink;
 use mps_keeper::{Book, Recorder};
@@ -24,8 +24,18 @@ impl<W: Sink> Diary<W> {
     }
 
     /// The book.
-    pub fn book(&self) -> Option<&Book<W>> {
+    pub fn book(&self) -> Option<&Book<W>>
+        ensures { option_map (λ b. b.now) result ≡ book_of self.now }
+    {
         self.book.as_ref()
+    }
+
+    /// Takes no more lines.
+    pub fn close(&mut self)
+        ensures book { book_of self.new ≡ book_of self.old }
+        ensures whole { intact_of self.new ≡ false }
+    {
+        self.whole = false;
     }
 }
 
@@ -60,6 +70,6 @@ impl<W: Sink> Recorder for Diary<W> {
     fn settle(&mut self, _lines: u64) {}
 
     fn lose(&mut self) {
-        self.whole = false;
+        self.close();
     }
 }

@@ -175,7 +175,7 @@ impl<W: Sink> Embedded<W> {
         // for the proof alone
         a_guest_is_answered_as_its_caller::<Unguarded, Diary<W>, Solo>();
         turn_to(&mut self.guest.inner, &mut self.numbers, role);
-        let outcome = take_line(self.alloc, &mut self.guest, line);
+        let outcome = take_line(self.alloc, &mut self.guest, false, line);
         let outcome = told(outcome, self.guest.may_tell());
         replace_outcome(&mut self.outcome, outcome);
     }

@@ -11,17 +11,19 @@ ghost use Rattle.mps_line.specs.Replies.{SpellsReply};
 ghost use Rattle.mps_room.specs.declared.entry.Entry.{Entry as Kept};
 ghost use Rattle.mps_embed.specs.Embedded.{front_over, IsFilled, IsForesight, IsInSlot, IsWanted};
 ghost use Rattle.mps_embed.specs.Embedded.{SpellsForesight, SpellsIfSome, participant_in};
+ghost use Rattle.mps_embed.specs.Kept.{IsChoiceTold};
 
 use crate::embedded::Embedded;
 use mps_base::{Name, Value};
 use mps_dev::Sink;
 use mps_line::Reply;
 use mps_line::journal_lines::write_journal_line;
+use mps_open::{Fault, choice_text};
 use mps_room::Room;
 use mps_show::write_expects;
 use mps_wire::laws::each_entry_can_be_written;
 use mps_wire::write_outcome;
-use std::alloc::AllocError;
+use std::alloc::{AllocError, Global};
 
 // Copies the front of the text over the front of `out`, as many bytes as both have; the rest of `out` stays, and no NUL is
 // put after them. For calls that return how long the whole text is.
@@ -113,6 +115,28 @@ fn put_slot(room: &Room, role: &[u8], slot: &[u8], text: &mut Vec<u8>) -> Result
         Some(place) => put_value(room.session().slot(place, &slot), text),
         None => Ok(()),
     }
+}
+
+/// Copies the words of the choice of that number of the protocol that the text spells, as `choice_text`, over the front of
+/// `out`, as much as fits. Returned is the length of the whole in bytes, 0 where the text can't be read or has not so many
+/// choices. Out of memory is the only error: `out` stays.
+pub fn choice_into(
+    alloc: Global,
+    text: &[u8],
+    number: u64,
+    out: &mut [u8],
+) -> Result<usize, AllocError>
+    ensures ok { IfOk result (IsFilled (IsChoiceTold text.now number) out.old out.new) }
+    ensures err { OnErr result (out.new ≡ out.old) }
+{
+    let words = match choice_text(alloc, text, number) {
+        Ok(words) => words,
+        Err(Fault::Text { .. }) => return Ok(0),
+        // for want of memory: a text that isn't read has no other fault
+        Err(_) => return Err(AllocError),
+    };
+    copy_front(words.as_slice(), out);
+    Ok(words.len())
 }
 
 impl<W: Sink> Embedded<W> {

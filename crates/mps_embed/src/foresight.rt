@@ -4,7 +4,7 @@ ghost use Rattle.mps_line.specs.declared.write_replies.Reply.TheVariants.{NoRole
 ghost use Rattle.mps_room.specs.Journal.{answer_to, refusal_of};
 ghost use Rattle.mps_room.specs.Numbers.{last_of, IsPosition};
 ghost use Rattle.mps_room.specs.declared.numbers.Position.TheVariants.{Next};
-ghost use Rattle.mps_embed.specs.Embedded.{Foretells, foretold_of, newest_at};
+ghost use Rattle.mps_embed.specs.Embedded.{Foretells, ForetellsWhole, foretold_of, newest_at};
 
 use crate::embedded::Embedded;
 use mps_base::Role;
@@ -14,6 +14,7 @@ use mps_line::laws::one_numbered;
 use mps_line::{LineFault, Reply, read_numbered};
 use mps_lines::MAX_LINE;
 use mps_room::{Caller, Position};
+use mps_wire::may_ask;
 use std::alloc::Global;
 
 // Where the number of a line stands, where the newest accepted one is that. A line without a number stands next.
@@ -62,20 +63,31 @@ impl<W: Sink> Embedded<W> {
         if !self.guest.may_tell() {
             return Err(Reply::Unkept);
         }
+        self.foresee_whole(role, line)
+    }
+
+    // The same of a room that isn't lost.
+    fn foresee_whole(&mut self, role: Role, line: &[u8]) -> Result<(), Reply>
+        requires known { role < length self.old.room.types }
+        ensures same { self.new ≡ self.old }
+        ensures foretold { ForetellsWhole self.old role line.now result }
+    {
         if line.len() > MAX_LINE {
             return Err(Reply::BadLine);
         }
         // for the proof alone
         one_numbered();
-        let (number, command) = match read_numbered(
-            self.alloc,
-            self.guest.inner.room.names(),
-            line,
-        ) {
+        let names = self.guest.inner.room.names();
+        // for the proof alone: no name stands twice
+        let _few = names.count();
+        let (number, command) = match read_numbered(self.alloc, names, line) {
             Ok(read) => read,
             Err(LineFault::Bad) => return Err(Reply::BadLine),
             Err(LineFault::Memory) => return Err(Reply::Answer(Answer::Refused(Refusal::Memory))),
         };
+        if !may_ask(false, &command) {
+            return Err(Reply::BadLine);
+        }
         match position(self.last_of(role), number) {
             Position::Last => Ok(()),
             Position::Next => self.judge(role, &command),
@@ -84,7 +96,8 @@ impl<W: Sink> Embedded<W> {
     }
 
     /// Why that line would be refused as a command of the role of that name, lack of memory for what it does aside; `Ok` where
-    /// it would be accepted, or is a question. Nothing changes.
+    /// it would be accepted, is a question, or has the number of the newest accepted one, whose answer would be told again.
+    /// Nothing changes.
     pub fn would(&mut self, role: &[u8], line: &[u8]) -> Result<(), Reply>
         ensures same { self.new ≡ self.old }
         ensures known { (place : ℕ) → slice_get self.old.room.names place ≡ Some role.now

@@ -1,13 +1,20 @@
 //! Rooms that files record.
-ghost use Rattle.std.specs.Prelude.{◌≡◌, IfOk};
-ghost use Rattle.mps_embed.specs.Kept.{IsKeptRoomOf, file_number};
+ghost use Rattle.std.specs.Prelude.{◌≡◌, map, true, IfErr, IfOk};
+ghost use Rattle.mps_line.specs.declared.write_replies.Reply.TheVariants.{NoRole as Nobody};
+ghost use Rattle.mps_local.specs.Local.{plain};
+ghost use Rattle.mps_embed.specs.Kept.{GivesNoRoom, IsFilePlace, IsKeptRoomOf, IsLedRoom, IsOfFile, IsStored, file_number};
+ghost use Rattle.mps_keeper.specs.BookParts.{lines_of, seal_of, whole_of};
+ghost use Rattle.mps_embed.specs.declared.kept.FileFault.TheVariants.{Room as OfRoom};
+ghost use Rattle.mps_open.specs.declared.fault.Fault.TheVariants.{Memory as OutOfMemory};
 
+use crate::diary::Diary;
 use crate::embedded::Embedded;
-use mps_dev::{OverRead, OverWrite};
-use mps_file::{Descriptor, JournalFile, OwnFile, cut_off, held, marked, torn};
+use mps_dev::OverWrite;
+use mps_file::{
+    Descriptor, JournalFile, OwnFile, cut_off, held, marked, restore, store_name, torn,
+};
 use mps_keeper::{Book, LONGEST_LINE, Recorder, RestoreFault, Restored, RestoredRoom};
 use mps_open::{Fault, Opening};
-use mps_seal::Seal;
 use mps_text::write_protocol;
 use std::alloc::{AllocError, Global};
 use std::io;
@@ -28,18 +35,24 @@ pub enum FileFault {
 }
 
 impl From<AllocError> for FileFault {
+    ghost from_gives = { λ _ e. e ≡ OfRoom OutOfMemory };
+
     fn from(_: AllocError) -> FileFault {
         FileFault::Room(Fault::Memory)
     }
 }
 
 impl From<Fault> for FileFault {
+    ghost from_gives = { λ fault e. e ≡ OfRoom fault };
+
     fn from(fault: Fault) -> FileFault {
         FileFault::Room(fault)
     }
 }
 
 impl From<io::Error> for FileFault {
+    ghost from_gives = { λ _ e. IsOfFile e };
+
     fn from(error: io::Error) -> FileFault {
         match error.kind() {
             ErrorKind::WouldBlock => FileFault::Elsewhere,
@@ -50,6 +63,8 @@ impl From<io::Error> for FileFault {
 }
 
 impl From<RestoreFault> for FileFault {
+    ghost from_gives = { λ _ e. IsOfFile e };
+
     fn from(fault: RestoreFault) -> FileFault {
         match fault {
             RestoreFault::Memory => FileFault::Room(Fault::Memory),
@@ -92,7 +107,9 @@ impl FileFault {
 
     /// Where the fault is: for a line its number, from 1; for what the system refuses its number of the error, or 0; else
     /// the place of the room's fault.
-    pub fn place(&self) -> u64 {
+    pub fn place(&self) -> u64
+        ensures { IsFilePlace self.now result }
+    {
         match self {
             FileFault::Room(fault) => fault.place(),
             FileFault::Elsewhere => 0,
@@ -117,15 +134,6 @@ const LAST_SESSION: u64 = 1 << 63;
 /// A room that may have a file.
 pub type FileRoom = Embedded<OverWrite<JournalFile>>;
 
-// The folder of that file.
-fn folder_of(path: &[u8]) -> &[u8] {
-    match path.iter().rposition(|byte| *byte == b'/') {
-        Some(0) => b"/",
-        Some(end) => &path[..end],
-        None => b".",
-    }
-}
-
 // Where what is cut off that file is kept: beside it, under the name with `.cut` for `.journal`, or else behind it.
 fn beside(alloc: Global, path: &[u8]) -> Result<Vec<u8>, AllocError> {
     let front = path.strip_suffix(b".journal").unwrap_or(path);
@@ -141,7 +149,11 @@ fn book_of(
     file: Arc<OwnFile, Global>,
     of: FileOf<'_>,
     restored: &Restored,
-) -> io::Result<Book<OverWrite<JournalFile>>> {
+) -> io::Result<Book<OverWrite<JournalFile>>>
+    ensures whole { IfOk result (λ b. whole_of b ≡ true) }
+    ensures lines { IfOk result (λ b. lines_of b ≡ restored.now.lines) }
+    ensures seal { restored.now.chain.is_sealed ≡ true → IfOk result (λ b. seal_of b ≡ restored.now.chain.seal) }
+{
     let count = torn(&file, restored)?;
     if count > 0 {
         let beside = beside(alloc, of.path)?;
@@ -151,13 +163,45 @@ fn book_of(
     let chain = marked(alloc, &file, restored)?;
     if of.sync {
         held(&file, file.sync_all())?;
-        held(
-            &file,
-            Descriptor::open_to_read(folder_of(of.path))?.sync_all(),
-        )?;
+        store_name(&file)?;
     }
     let written = JournalFile::new(alloc, file, of.sync)?;
     Ok(Book::new(OverWrite::new(written), restored.lines, chain.seal))
+}
+
+// A room of that protocol, as the file leaves it, which its further commands are added to.
+#[tactic(auto, using(crate::proofs::Opening::no_memory))]
+fn kept_room(alloc: Global, opening: Opening, of: FileOf<'_>) -> Result<FileRoom, FileFault>
+    ensures led { IfOk result (IsLedRoom opening.roles (map plain opening.types.items)) }
+    ensures whole { IfOk result (λ e. e.whole ≡ true) }
+    ensures reply { IfOk result (λ e. e.reply ≡ Nobody) }
+    ensures records { IfOk result (λ e. e.records ≡ true) }
+    ensures fault { IfErr result IsOfFile }
+{
+    if of.session == 0 || of.session > LAST_SESSION {
+        return Err(FileFault::from(io::Error::from(ErrorKind::InvalidInput)));
+    }
+    let protocol = write_protocol(alloc, &opening.protocol)?;
+    let (roles, session) = opening.into_session(alloc)?;
+    let mut room = RestoredRoom::new(alloc, roles, session)?;
+    let line = Vec::with_capacity(alloc, LONGEST_LINE)?;
+    let file = Descriptor::open_locked(of.path)?;
+    let Ok(file) = Arc::new(alloc, OwnFile::Raw(file)) else {
+        return Err(FileFault::Room(Fault::Memory));
+    };
+    let restored = restore(alloc, protocol.as_slice(), of.session, &file, &mut room)?;
+    let book = book_of(alloc, file, of, &restored)?;
+    Ok(Embedded::of_restored(alloc, room, Some(book), line))
+}
+
+impl Diary<OverWrite<JournalFile>> {
+    // Has the disk store what its book took, if it has one.
+    fn store(&self) -> bool {
+        match self.book() {
+            Some(book) => book.sink().get_ref().store().is_ok(),
+            None => true,
+        }
+    }
 }
 
 impl FileRoom {
@@ -166,34 +210,26 @@ impl FileRoom {
     ///
     /// What stands past its last whole line is what a write left that broke off: it is cut, and kept beside the file. Where
     /// a line isn't as it was written, or its command isn't accepted, the file stays as it is.
-    pub fn open_file(alloc: Global, text: &[u8], of: FileOf<'_>) -> Result<FileRoom, FileFault> {
-        if of.session == 0 || of.session > LAST_SESSION {
-            return Err(FileFault::from(io::Error::from(ErrorKind::InvalidInput)));
-        }
+    pub fn open_file(alloc: Global, text: &[u8], of: FileOf<'_>) -> Result<FileRoom, FileFault>
+        ensures opened { IfOk result (IsKeptRoomOf text.now) }
+        ensures fault { IfErr result (GivesNoRoom text.now) }
+    {
         let opening = Opening::of_text(alloc, text)?;
-        let protocol = write_protocol(alloc, &opening.protocol)?;
-        let (roles, session) = opening.into_session(alloc)?;
-        let mut room = RestoredRoom::new(alloc, roles, session)?;
-        let line = Vec::with_capacity(alloc, LONGEST_LINE)?;
-        let file = Descriptor::open_locked(of.path)?;
-        let Ok(file) = Arc::new(alloc, OwnFile::Raw(file)) else {
-            return Err(FileFault::Room(Fault::Memory));
-        };
-        let first = Seal::first(alloc, protocol.as_slice(), of.session)?;
-        let restored = room.restore_from(alloc, first, &mut OverRead::new(&*file))?;
-        let book = book_of(alloc, file, of, &restored)?;
-        Ok(Embedded::of_restored(alloc, room, Some(book), line))
+        kept_room(alloc, opening, of)
     }
 
     /// Has the disk store all that was answered so far, where a file records it. Says whether it is stored; where it isn't,
     /// no line is run any more, as where a line can't be written.
-    pub fn sync(&mut self) -> bool {
-        let stored = match self.guest.recorder.book() {
-            Some(book) => book.is_whole() && book.sink().get_ref().store().is_ok(),
-            None => return true,
-        };
+    pub fn sync(&mut self) -> bool
+        ensures { IsStored self.old result self.new }
+    {
+        let diary = &mut self.guest.recorder;
+        if !diary.records() {
+            return true;
+        }
+        let stored = diary.is_whole() && diary.store();
         if !stored {
-            self.guest.recorder.lose();
+            diary.close();
         }
         stored
     }

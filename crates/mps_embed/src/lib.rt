@@ -16,4 +16,5 @@ pub mod laws;
 
 pub use diary::Diary;
 pub use embedded::Embedded;
+pub use filling::choice_into;
 pub use kept::{FileFault, FileOf, FileRoom};

@@ -1,1 +1,2 @@
--- The lemmas of mps_file.
+-- The lemmas of mps_file, a file each.
+mod Leading

@@ -100,6 +100,23 @@ fn read_link(path: &[u8], found: &mut [u8; libc::PATH_MAX]) -> io::Result<usize>
     count(moved, found.len())
 }
 
+// Fails where the path is a link.
+fn refuse_link(path: &[u8]) -> io::Result<()> {
+    match read_link(path, &mut [0u8; libc::PATH_MAX]) {
+        Ok(_) => Err(io::Error::from_raw_os_error(libc::ELOOP)),
+        Err(_) => Ok(()),
+    }
+}
+
+// The folder of that file.
+fn folder_of(path: &[u8]) -> &[u8] {
+    match path.iter().rposition(|byte| *byte == b'/') {
+        Some(0) => b"/",
+        Some(end) => &path[..end],
+        None => b".",
+    }
+}
+
 impl Descriptor {
     // What the system opened, or why it did not.
     fn opened(fd: i32) -> io::Result<Descriptor> {
@@ -115,22 +132,21 @@ impl Descriptor {
     // Opens what is to be read and added to, which has to be no link. Where there is none it is made, for its owner alone.
     fn open_unlocked(path: &[u8]) -> io::Result<Descriptor> {
         // before it is opened, which would make the file that a link leads to
-        if read_link(path, &mut [0u8; libc::PATH_MAX]).is_ok() {
-            return Err(io::Error::from_raw_os_error(libc::ELOOP));
-        }
+        refuse_link(path)?;
         Descriptor::opened(os::open_with(path, READ_AND_ADD | libc::O_CREAT, OWNERS_MODE))
     }
 
-    /// Opens a file to be read and added to, which nobody else may write meanwhile. It has to be a file, and no link; where
-    /// there is none it is made, for its owner alone.
+    /// Opens a file to be read and added to, and locks it as long as it is open: it may be the file of another room. It has to
+    /// be a file, and no link; where there is none it is made, for its owner alone.
     pub fn open_to_add(path: &[u8]) -> io::Result<Descriptor> {
         let file = Descriptor::open_unlocked(path)?;
-        file.refuse_others()?;
+        file.call(Call::Lock)?;
+        file.refuse_what_is_no_file()?;
         Ok(file)
     }
 
     // Fails where it is no file: only a file can be cut, to where it ends. Nobody else may write it meanwhile.
-    fn refuse_others(&self) -> io::Result<()> {
+    fn refuse_what_is_no_file(&self) -> io::Result<()> {
         self.set_len(self.len()?)
     }
 
@@ -149,13 +165,28 @@ impl Descriptor {
         Ok(!found[..length].ends_with(REMOVED))
     }
 
-    // Whether the path is its name.
+    /// The folder that has it.
+    pub fn folder(&self) -> io::Result<Descriptor> {
+        let mut found = [0u8; libc::PATH_MAX];
+        let length = self.name(&mut found)?;
+        Descriptor::open_to_read(folder_of(&found[..length]))
+    }
+
+    // Whether the path is its name, and leads to it by no link. A file whose name ends as that of one that was removed can't be
+    // told from such a one, and is refused.
     fn is_at(&self, path: &[u8]) -> io::Result<bool> {
         let mut found = [0u8; libc::PATH_MAX];
         let length = self.name(&mut found)?;
         let mut whole = [0u8; libc::PATH_MAX];
-        done(os::realpath(path, &mut whole))?;
+        match done(os::realpath(path, &mut whole)) {
+            Err(why) if why.kind() == ErrorKind::NotFound => return Ok(false),
+            is_there => is_there?,
+        }
         let end = os::name_length(&whole);
+        refuse_link(path)?;
+        if whole[..end].ends_with(REMOVED) {
+            return Err(io::Error::from_raw_os_error(libc::EINVAL));
+        }
         Ok(found[..length] == whole[..end])
     }
 
@@ -166,8 +197,8 @@ impl Descriptor {
             let file = Descriptor::open_unlocked(path)?;
             file.call(Call::Lock)?;
             // another process may have removed it by then
-            if file.is_at(path).unwrap_or(false) {
-                file.refuse_others()?;
+            if file.is_at(path)? {
+                file.refuse_what_is_no_file()?;
                 return Ok(file);
             }
         }

@@ -30,6 +30,8 @@ pub struct JournalFile {
     // at each how many'th write the names are looked at, and how many are left until then
     every: u64,
     left: u64,
+    // whether the disk has stored its name
+    named: AtomicBool,
 }
 
 /// At each how many'th write the names of a file are looked at that isn't stored at once: a look takes as long as a write.
@@ -112,6 +114,14 @@ pub fn held(file: &Arc<OwnFile, Global>, stored: io::Result<()>) -> io::Result<(
     stored
 }
 
+/// Has the disk store that the file's folder has it (`held`).
+pub fn store_name(file: &Arc<OwnFile, Global>) -> io::Result<()> {
+    match file.folder()? {
+        Some(folder) => held(file, folder.sync_all()),
+        None => Ok(()),
+    }
+}
+
 // The error of that number.
 fn error_of(newest: &NewestError) -> io::Error {
     let code = newest.load(Ordering::SeqCst);
@@ -134,6 +144,7 @@ pub fn parted(
         stores: false,
         every: 1,
         left: 0,
+        named: AtomicBool::new(true),
     };
     Ok((
         written,
@@ -147,8 +158,8 @@ pub fn parted(
 }
 
 impl JournalFile {
-    /// The file, for one writer. Each write is stored before it counts, where that is said, and else the names are looked at
-    /// at each `LOOK`'th write.
+    /// The file, for one writer. Each write is stored before it counts, where that is said, of a file whose name the disk has
+    /// stored; else the names are looked at at each `LOOK`'th write.
     pub fn new(alloc: Global, file: Arc<OwnFile, Global>, stores: bool) -> io::Result<JournalFile> {
         Ok(JournalFile {
             file,
@@ -157,6 +168,7 @@ impl JournalFile {
             stores,
             every: if stores { 1 } else { LOOK },
             left: 0,
+            named: AtomicBool::new(stores),
         })
     }
 
@@ -165,10 +177,15 @@ impl JournalFile {
         error_of(&self.newest)
     }
 
-    /// Has the disk store what was written, of a file that still has a name (`held`).
+    /// Has the disk store what was written, of a file that still has a name (`held`), and the first time its name too.
     pub fn store(&self) -> io::Result<()> {
         noted(&self.newest, self.look())?;
-        noted(&self.newest, held(&self.file, self.file.sync_data()))
+        noted(&self.newest, held(&self.file, self.file.sync_data()))?;
+        if !self.named.load(Ordering::SeqCst) {
+            noted(&self.newest, store_name(&self.file))?;
+            self.named.store(true, Ordering::SeqCst);
+        }
+        Ok(())
     }
 
     // Looks whether the file has a name.

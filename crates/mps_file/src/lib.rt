@@ -1,8 +1,8 @@
 //! The files of sessions' journals: opened, brought to their whole lines, and written.
 //!
 //! ```
-//! let file = OwnFile::Raw(Descriptor::open_locked(alloc, path)?);
-//! let restored = room.restore_from(alloc, first, &mut OverRead::new(&file))?;
+//! let file = OwnFile::Raw(Descriptor::open_locked(path)?);
+//! let restored = restore(alloc, protocol, session, &file, &mut room)?;
 //! if torn(&file, &restored)? > 0 { .. }
 //! ```
 #![tactic(auto)]
@@ -14,7 +14,7 @@ pub mod rest;
 
 pub use descriptor::Descriptor;
 pub use journal_file::{
-    About, FileKeeper, JournalDisk, JournalFile, LOOK, Note, Unsynced, held, parted,
+    About, FileKeeper, JournalDisk, JournalFile, LOOK, Note, Unsynced, held, parted, store_name,
 };
 pub use own_file::OwnFile;
-pub use rest::{cut_off, marked, torn};
+pub use rest::{cut_off, marked, restore, torn};

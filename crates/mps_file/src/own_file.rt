@@ -58,6 +58,14 @@ impl OwnFile {
         }
     }
 
+    /// The folder that has it, where it was opened by its descriptor: those of files of std a server sees to.
+    pub fn folder(&self) -> io::Result<Option<Descriptor>> {
+        match self {
+            OwnFile::Std(_) => Ok(None),
+            OwnFile::Raw(file) => Ok(Some(file.folder()?)),
+        }
+    }
+
     // Reads once at that place.
     fn read_at(&self, buf: &mut [u8], at: u64) -> io::Result<usize>
         ensures { IfOk result (λ n. n ≤ length buf.new) }
@@ -128,8 +136,14 @@ fn read_raw(file: &Descriptor, buf: &mut [u8]) -> io::Result<usize>
 }
 
 impl Read for &OwnFile {
-    // Reads once; a read that a signal interrupts is the caller's to try again.
+    // Reads once, and again where a signal interrupts it.
     fn read(&mut self, buf: &mut [u8]) -> io::Result<usize> {
+        for _ in 0..INTERRUPTS {
+            match self.read_once(buf) {
+                Err(why) if why.kind() == ErrorKind::Interrupted => {}
+                read => return read,
+            }
+        }
         self.read_once(buf)
     }
 }

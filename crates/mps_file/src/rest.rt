@@ -1,9 +1,13 @@
-//! What a journal's file has past its whole lines, and the mark from which its lines have seals.
+//! What a journal's file leads to, what it has past its whole lines, and the mark from which its lines have seals.
+ghost use Rattle.std.specs.Prelude.{◌≡◌, true, ℕ, List, IfOk, OnOk};
+ghost use Rattle.mps_file.specs.Rooms.{IsNewRoom, IsRestoredRoom};
+ghost use Rattle.mps_local.specs.Local.{LocalType};
 
 use crate::journal_file::JournalFile;
 use crate::own_file::OwnFile;
-use mps_dev::OverWrite;
-use mps_keeper::{Book, Chain, Restored};
+use mps_dev::{OverRead, OverWrite};
+use mps_keeper::{Book, Chain, RestoreFault, Restored, RestoredRoom};
+use mps_seal::Seal;
 use std::alloc::Global;
 use std::io;
 use std::io::{ErrorKind, Write};
@@ -36,12 +40,26 @@ pub fn cut_off(
     file.set_len(whole)
 }
 
-/// Marks the file after the lines that were read of it, where they have no seals so far. Returned is the chain after the mark.
-pub fn marked(
+/// Brings a new room to where the file of that session of the protocol leaves it, and says how far the file was read.
+pub fn restore(
     alloc: Global,
-    file: &Arc<OwnFile, Global>,
-    restored: &Restored,
-) -> io::Result<Chain> {
+    protocol: &[u8],
+    session: u64,
+    file: &OwnFile,
+    room: &mut RestoredRoom,
+) -> Result<Restored, RestoreFault>
+    ensures room { (names : List (List ℕ)) (types : List LocalType) → IsNewRoom names types room.old
+        → OnOk result (IsRestoredRoom names types room.new) }
+{
+    let first = Seal::first(alloc, protocol, session)?;
+    room.restore_from(alloc, first, &mut OverRead::new(file))
+}
+
+/// Marks the file after the lines that were read of it, where they have no seals so far. Returned is the chain after the mark.
+pub fn marked(alloc: Global, file: &Arc<OwnFile, Global>, restored: &Restored) -> io::Result<Chain>
+    ensures sealed { IfOk result (λ chain. chain.is_sealed ≡ true) }
+    ensures same { restored.now.chain.is_sealed ≡ true → IfOk result (λ chain. chain ≡ restored.now.chain) }
+{
     let chain = restored.chain;
     if chain.is_sealed {
         return Ok(chain);

@@ -1,8 +1,9 @@
 -- Histories: lists of numbered steps, the oldest first. Order in one role and a send before its receipt are Lamport's
 -- happened-before (1978), which `Dependence` defines from the words here.
 use Rattle.std.specs.Prelude.{◌≡◌, ℕ, ◌<◌, ◌⊎◌, Bool, false, ◌==◌, ◌&&◌, not, List, [], ◌∷◌, ◌++◌, map, length, drop}
-use Rattle.std.specs.Prelude.{Option, ⊤}
+use Rattle.std.specs.Prelude.{Option, None, Some, if◌then◌else◌, ⊤}
 use Rattle.std.specs.List.{filter, find, AllByRecursion}
+use Rattle.std.specs.Option.{option_or}
 use Rattle.mps_base.specs.declared.action.Act.{Act}
 use Rattle.mps_base.specs.Effects.{Effect, Gives, Takes, effect}
 use Rattle.mps_base.specs.declared.action.Message.{Message}
@@ -68,6 +69,11 @@ within h set = filter (λ s. set s.id) h
 -- the steps of one role, in order
 abbrev pub steps_of : ℕ → List Step → List Step
 steps_of p h = filter (λ s. s.role == p) h
+
+-- of steps in order, each with something beside it, the last that is role p's
+abbrev pub newest_of : {X : Type 0} → ℕ → List (Step × X) → Option (Step × X)
+newest_of p [] = None
+newest_of p (m ∷ ms) = option_or (newest_of p ms) (if m.0.role == p then Some m else None)
 
 -- the messages that an act gives
 abbrev pub given : Act → List Message

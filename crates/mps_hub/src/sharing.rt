@@ -35,7 +35,7 @@ fn may_change(command: &Command) -> bool
     ensures { result ≡ may_change command.now }
 {
     match command {
-        Command::News(_) | Command::Show => false,
+        Command::News(_) | Command::Show | Command::Stand => false,
         Command::Undo(id) => id.number() != 0,
         Command::Forward(_) | Command::Rollback(_) | Command::Back(_) => true,
     }

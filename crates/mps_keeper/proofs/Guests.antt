@@ -1,5 +1,5 @@
 -- One caller behind another.
-use Rattle.std.proofs.Common.{◌≡◌, ◌≢◌, ◌+◌, ℕ, List, Option, None, Some, sym, ap, subst, ◌∙◌}
+use Rattle.std.proofs.Common.{◌≡◌, ◌≢◌, ◌+◌, ℕ, Bool, List, Option, None, Some, sym, ap, subst, ◌∙◌}
 use Rattle.mps_base.specs.declared.value.Value.TheVariants.{Text}
 use Rattle.mps_command.specs.declared.answer.Answer.{Answer}
 use Rattle.mps_command.specs.declared.answer.Answer.TheVariants as answers
@@ -57,34 +57,34 @@ module _ {R C : Type 0} (guest : Ghosts R) (inner : Ghosts C) (within : R → C)
     told_as s (Refused refusal) reply t = t
 
     -- what the one is replied, the other is
-    pub replies_within : (line : List ℕ) (r : R) (reply : Reply) (s : R) → RepliesTo guest line r reply s → RepliesTo inner line (within r) reply (within s)
-    replies_within line r reply s (Unread u) = Unread (record {
-      unreadable = subst (λ (names : List (List ℕ)). (lead : Option ℕ) (command : Command) → IsRequest names line lead command → ⊥) (over.names r) u.unreadable;
+    pub replies_within : (waits : Bool) (line : List ℕ) (r : R) (reply : Reply) (s : R) → RepliesTo guest waits line r reply s → RepliesTo inner waits line (within r) reply (within s)
+    replies_within waits line r reply s (Unread u) = Unread (record {
+      unreadable = subst (λ (names : List (List ℕ)). (lead : Option ℕ) (command : Command) → IsRequest waits names line lead command → ⊥) (over.names r) u.unreadable;
       bad = u.bad;
       unchanged = ap within u.unchanged;
     })
-    replies_within line r reply s (Called u) = Called (record {
+    replies_within waits line r reply s (Called u) = Called (record {
       command = u.command;
-      readable = subst (λ (names : List (List ℕ)). IsRequest names line None u.command) (over.names r) u.readable;
+      readable = subst (λ (names : List (List ℕ)). IsRequest waits names line None u.command) (over.names r) u.readable;
       answer = u.answer;
       call = over.calls r u.command u.answer s u.call;
       last_stays = same_last r s u.last_stays;
       kept_stays = same_kept r s u.kept_stays;
       told = u.told;
     })
-    replies_within line r reply s (Numbered u) = Numbered (record {
+    replies_within waits line r reply s (Numbered u) = Numbered (record {
       number = u.number;
       command = u.command;
-      readable = subst (λ (names : List (List ℕ)). IsRequest names line (Some u.number) u.command) (over.names r) u.readable;
+      readable = subst (λ (names : List (List ℕ)). IsRequest waits names line (Some u.number) u.command) (over.names r) u.readable;
       came = u.came;
       numbered = numbered r u.number u.command s u.came u.numbered;
       told = told_as s u.came reply u.told;
     })
-    replies_within line r reply s (Starved u) = Starved (record {
+    replies_within waits line r reply s (Starved u) = Starved (record {
       lead = u.lead;
       to = u.to;
       value = u.value;
-      readable = subst (λ (names : List (List ℕ)). IsRequest names line u.lead (Forward (Send u.to (Text u.value)))) (over.names r) u.readable;
+      readable = subst (λ (names : List (List ℕ)). IsRequest waits names line u.lead (Forward (Send u.to (Text u.value)))) (over.names r) u.readable;
       told = u.told;
       unchanged = ap within u.unchanged;
     })
@@ -100,8 +100,8 @@ module _ {R : Type 0} (caller : Ghosts R) (P : R → R → Type 0) (stays : (c :
   came c number command d Kept n = unmoved c d n.unchanged
   came c number command d Wrong n = unmoved c d n.unchanged
 
-  pub by_calls : (line : List ℕ) (c : R) (reply : Reply) (d : R) → RepliesTo caller line c reply d → P c d
-  by_calls line c reply d (Unread u) = unmoved c d u.unchanged
-  by_calls line c reply d (Called s) = leads c s.command s.answer d s.call
-  by_calls line c reply d (Numbered s) = came c s.number s.command d s.came s.numbered
-  by_calls line c reply d (Starved s) = unmoved c d s.unchanged
+  pub by_calls : (waits : Bool) (line : List ℕ) (c : R) (reply : Reply) (d : R) → RepliesTo caller waits line c reply d → P c d
+  by_calls waits line c reply d (Unread u) = unmoved c d u.unchanged
+  by_calls waits line c reply d (Called s) = leads c s.command s.answer d s.call
+  by_calls waits line c reply d (Numbered s) = came c s.number s.command d s.came s.numbered
+  by_calls waits line c reply d (Starved s) = unmoved c d s.unchanged

@@ -2,7 +2,6 @@
 use Rattle.std.proofs.Common.{arith, ◌≡◌, ℕ, zero, suc, Bool, true, false, List, [], ◌∷◌, ◌++◌, refl, sym, ap, subst, ◌∙◌, append_assoc, append-nil}
 use Rattle.std.specs.Prelude.{Option, if◌then◌else◌}
 use Rattle.mps_command.specs.declared.answer.Answer.{Answer}
-use Rattle.mps_command.specs.declared.answer.Answer.TheVariants as answers
 use Rattle.mps_command.specs.declared.command.Command.{Command}
 use Rattle.mps_line.specs.declared.write_replies.Reply.{Reply}
 use Rattle.mps_lines.specs.Lines.{ended}
@@ -10,16 +9,14 @@ use Rattle.mps_room.specs.Callers.{entry}
 use Rattle.mps_room.specs.Journal.{is_accepted, grown}
 use Rattle.mps_room.specs.declared.caller.Caller.{Ghosts}
 use Rattle.mps_room.specs.declared.entry.Entry.{Entry}
-use Rattle.mps_room.specs.Numbers.{IsNumbered}
-use Rattle.mps_room.specs.declared.numbers.Told.{Told}
-use Rattle.mps_room.specs.declared.numbers.Told.TheVariants.{Fresh, Refused}
 use Rattle.mps_wire.specs.Answers.{AnswersBrokenOff, AnswersLines}
-use Rattle.mps_wire.specs.Conversations.{RepliesTo, Unread, Called, Numbered, Starved, LooksInVain, RepliesInTime, AtOnce, Later, ConversesLine, ConversesBrokenOff}
+use Rattle.mps_wire.specs.Conversations.{RepliesTo, LooksInVain, RepliesInTime, AtOnce, Later, ConversesLine, ConversesBrokenOff}
 use Rattle.mps_wire.proofs.Calling.{whole_is_broken}
 use Rattle.mps_keeper.specs.Books.{Sealed, TookMore, bytes_of}
 use Rattle.mps_keeper.specs.Recorded.{IsRecorded, IsSettled}
 use Rattle.mps_keeper.specs.Trails.{SpellEntries, RecordedOn, WrittenIsRecorded}
 use Rattle.mps_keeper.proofs.Counting.{counts_on}
+use Rattle.mps_keeper.proofs.Guests.{by_calls}
 use Rattle.mps_keeper.proofs.Sealed.{sealed_more, sealed_none}
 use Rattle.mps_keeper.proofs.Taking.{more_trans, no_more}
 use Rattle.mps_keeper.specs.declared.recorder.Recorder.{Ghosts as RecorderGhosts}
@@ -70,26 +67,18 @@ module _ {R : Type 0} (caller : Ghosts R) (records whole : R → Bool) (taken : 
   }
 
   module _ (leads : (c : R) (x : Command) (a : Answer) (d : R) → caller.calls c x a d → Leads c d) where
-    came : (c : R) (number : ℕ) (command : Command) (d : R) (t : Told) → IsNumbered caller.calls caller.last caller.kept c number command d t → Leads c d
-    came c number command d Fresh n = leads c command n.answer d n.call
-    came c number command d (Refused refusal) n = leads c command (answers.Refused refusal) d n.call
-    came c number command d other n = stays c d n.unchanged
-
-    pub replied : (line : List ℕ) (c : R) (reply : Reply) (d : R) → RepliesTo caller line c reply d → Leads c d
-    replied line c reply d (Unread u) = stays c d u.unchanged
-    replied line c reply d (Called s) = leads c s.command s.answer d s.call
-    replied line c reply d (Numbered s) = came c s.number s.command d s.came s.numbered
-    replied line c reply d (Starved s) = stays c d s.unchanged
+    pub replied : (waits : Bool) (line : List ℕ) (c : R) (reply : Reply) (d : R) → RepliesTo caller waits line c reply d → Leads c d
+    replied = by_calls caller Leads nowhere leads
 
     looked : (line : List ℕ) (n : ℕ) (c d : R) → LooksInVain caller line n c d → Leads c d
     looked line zero c d l = stays c d l
-    looked line (suc n) c d l = further c l.0 d (looked line n c l.0 l.2) (replied line l.0 l.1 d l.3)
+    looked line (suc n) c d l = further c l.0 d (looked line n c l.0 l.2) (replied true line l.0 l.1 d l.3)
 
     -- Lines that may wait, or may not.
     module _ (waits : Bool) where
       in_time : (line : List ℕ) (c : R) (reply : Reply) (d : R) → RepliesInTime caller waits line c reply d → Leads c d
-      in_time line c reply d (AtOnce none r) = replied line c reply d r
-      in_time line c reply d (Later w) = further c w.mid d (looked w.rest w.looks c w.mid w.in_vain) (replied w.rest w.mid reply d w.replies)
+      in_time line c reply d (AtOnce none r) = replied waits line c reply d r
+      in_time line c reply d (Later w) = further c w.mid d (looked w.rest w.looks c w.mid w.in_vain) (replied true w.rest w.mid reply d w.replies)
 
       pub lines_lead : (lines : List (List ℕ)) (c : R) (out : List ℕ) (d : R) → AnswersLines (ConversesLine caller waits) lines c out d → Leads c d
       lines_lead [] c out d a = stays c d a.1

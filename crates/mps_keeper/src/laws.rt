@@ -71,22 +71,22 @@ pub fn what_is_answered_is_recorded<G: Gate + 'static, K: Recorder, C: Recordabl
 /// command is recorded, if it made one. Once something is lost it stays lost; and where nothing is recorded the recorder stays
 /// as it was.
 pub fn a_guest_is_answered_as_its_caller<G: Gate + 'static, K: Recorder, C: Recordable>()
-    ensures replies { (line : List ℕ) (before : GuestOf G K C) (reply : Reply) (after : GuestOf G K C)
-        → RepliesTo ⟦<Guest<'static, G, K, C> as Caller>⟧ line before reply after
-        → RepliesTo ⟦<C as Caller>⟧ line before.inner reply after.inner }
-    ensures recorded { (line : List ℕ) (before : GuestOf G K C) (reply : Reply) (after : GuestOf G K C)
-        → RepliesTo ⟦<Guest<'static, G, K, C> as Caller>⟧ line before reply after
+    ensures replies { (waits : Bool) (line : List ℕ) (before : GuestOf G K C) (reply : Reply) (after : GuestOf G K C)
+        → RepliesTo ⟦<Guest<'static, G, K, C> as Caller>⟧ waits line before reply after
+        → RepliesTo ⟦<C as Caller>⟧ waits line before.inner reply after.inner }
+    ensures recorded { (waits : Bool) (line : List ℕ) (before : GuestOf G K C) (reply : Reply) (after : GuestOf G K C)
+        → RepliesTo ⟦<Guest<'static, G, K, C> as Caller>⟧ waits line before reply after
         → K.records before.recorder ≡ true → K.whole after.recorder ≡ true
         → RecordedOn (C.names before.inner) (K.taken before.recorder) (K.taken after.recorder)
         (C.last before.inner) (C.last after.inner) (C.made before.inner) (C.made after.inner) }
-    ensures once { (line : List ℕ) (before : GuestOf G K C) (reply : Reply) (after : GuestOf G K C)
-        → RepliesTo ⟦<Guest<'static, G, K, C> as Caller>⟧ line before reply after
+    ensures once { (waits : Bool) (line : List ℕ) (before : GuestOf G K C) (reply : Reply) (after : GuestOf G K C)
+        → RepliesTo ⟦<Guest<'static, G, K, C> as Caller>⟧ waits line before reply after
         → K.whole after.recorder ≡ true → K.whole before.recorder ≡ true }
-    ensures same { (line : List ℕ) (before : GuestOf G K C) (reply : Reply) (after : GuestOf G K C)
-        → RepliesTo ⟦<Guest<'static, G, K, C> as Caller>⟧ line before reply after
+    ensures same { (waits : Bool) (line : List ℕ) (before : GuestOf G K C) (reply : Reply) (after : GuestOf G K C)
+        → RepliesTo ⟦<Guest<'static, G, K, C> as Caller>⟧ waits line before reply after
         → K.records after.recorder ≡ K.records before.recorder }
-    ensures idle { (line : List ℕ) (before : GuestOf G K C) (reply : Reply) (after : GuestOf G K C)
-        → RepliesTo ⟦<Guest<'static, G, K, C> as Caller>⟧ line before reply after
+    ensures idle { (waits : Bool) (line : List ℕ) (before : GuestOf G K C) (reply : Reply) (after : GuestOf G K C)
+        → RepliesTo ⟦<Guest<'static, G, K, C> as Caller>⟧ waits line before reply after
         → K.records before.recorder ≡ false → after.recorder ≡ before.recorder }
 {}
 

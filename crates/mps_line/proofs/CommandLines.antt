@@ -59,7 +59,7 @@ lone_line names bytes command none h =
 pub lone_read : (names : List (List ℕ)) (bytes : List ℕ) (command : Command) → arguments command ≡ [] → bytes ≡ verb_word (verb_of command) → SpellsCommand names bytes command
 lone_read names bytes command none e = grind (arith, line_of_one)
 
--- and that verb is one of two
+-- and that verb is one of three
 no_lone : (bytes : List ℕ) (command : Command) → arguments command ≡ [] → IsNoneOf lone_verbs bytes → bytes ≢ verb_word (verb_of command)
 no_lone bytes command none other = grind arith
 

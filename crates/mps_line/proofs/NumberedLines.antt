@@ -50,6 +50,7 @@ number_before names bytes rest n command b h = grind (arith, joined names bytes 
 abbrev asks : Verb → Bool
 asks verbs.News = false
 asks verbs.Show = false
+asks verbs.Stand = false
 asks verb = true
 
 asks_is : (command : Command) → is_some (change_of command) ≡ asks (verb_of command)

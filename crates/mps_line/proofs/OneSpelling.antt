@@ -88,12 +88,14 @@ module _ (one_value : (a : List ℕ) (v w : Value) → SpellsValue a v → Spell
   same_arguments names a (Back x) (Back y) distinct e h k = ap Back (one_name names a x y h k)
   same_arguments names a (News m) (News n) distinct e h k = ap News (one_step names a m n h k)
   same_arguments names a commands.Show commands.Show distinct e h k = refl
+  same_arguments names a commands.Stand commands.Stand distinct e h k = refl
   same_arguments names a (Forward Commit) (Forward Commit) distinct e h k = refl
   same_arguments names a (Undo m) (Forward (Mark y)) distinct e h k = absurd cc
   same_arguments names a (Rollback m) (Forward (Mark y)) distinct e h k = absurd cc
   same_arguments names a (Back x) (Forward (Mark y)) distinct e h k = absurd cc
   same_arguments names a (News m) (Forward (Mark y)) distinct e h k = absurd cc
   same_arguments names a commands.Show (Forward (Mark y)) distinct e h k = absurd cc
+  same_arguments names a commands.Stand (Forward (Mark y)) distinct e h k = absurd cc
   same_arguments names a c d distinct e h k = absurd cc
 
   same_command_of_more : (names : List (List ℕ)) (a : List ℕ) (c d : Command) → AreDistinct names → TakesArguments c → TakesArguments d → SpellsCommand names a c → SpellsCommand names a d → c ≡ d
@@ -156,4 +158,5 @@ names_roles names a c h =
     alone_names_none : (c : Command) → arguments c ≡ [] → NamesRolesOf names c
     alone_names_none (Forward Commit) none = λ peer e. absurd cc
     alone_names_none commands.Show none = λ peer e. absurd cc
+    alone_names_none commands.Stand none = λ peer e. absurd cc
     alone_names_none c none = absurd cc

@@ -4,7 +4,7 @@ use Rattle.std.specs.Option.{ForSome}
 use Rattle.mps_base.specs.Spaced.{spaced}
 use Rattle.mps_command.specs.Changes.{change_of}
 use Rattle.mps_command.specs.declared.command.Command.{Command}
-use Rattle.mps_command.specs.declared.command.Command.TheVariants.{Forward, Undo, Rollback, Back, News, Show}
+use Rattle.mps_command.specs.declared.command.Command.TheVariants.{Forward, Undo, Rollback, Back, News, Show, Stand}
 use Rattle.mps_command.specs.declared.command.Forward.TheVariants.{Send, Choose, Receive, Pick, Mark, Commit}
 use Rattle.mps_line.specs.declared.read_commands.Verb.{Verb}
 use Rattle.mps_line.specs.declared.read_commands.Verb.TheVariants as verbs
@@ -23,6 +23,7 @@ verb_word verbs.Rollback = codes "rollback"
 verb_word verbs.Back = codes "back"
 verb_word verbs.News = codes "news"
 verb_word verbs.Show = codes "show"
+verb_word verbs.Stand = codes "stand"
 
 -- the verb of a command
 abbrev pub verb_of : Command → Verb
@@ -37,6 +38,7 @@ verb_of (Rollback id) = verbs.Rollback
 verb_of (Back name) = verbs.Back
 verb_of (News known) = verbs.News
 verb_of Show = verbs.Show
+verb_of Stand = verbs.Stand
 
 -- the tokens after the verb
 abbrev pub arguments : Command → List Token
@@ -51,13 +53,14 @@ arguments (Rollback id) = Number id ∷ []
 arguments (Back name) = Called name ∷ []
 arguments (News known) = Number known ∷ []
 arguments Show = []
+arguments Stand = []
 
 -- the verb and its arguments
 abbrev pub command_tokens : Command → List Token
 command_tokens command = Word (verb_word (verb_of command)) ∷ arguments command
 
 -- `send PEER VALUE`, `choose PEER LABEL`, `recv PEER SLOT`, `pick PEER`, `mark NAME`, `commit`, `undo NUMBER`,
--- `rollback NUMBER`, `back NAME`, `news NUMBER` or `show`
+-- `rollback NUMBER`, `back NAME`, `news NUMBER`, `show` or `stand`
 abbrev pub SpellsCommand : (names : List (List ℕ)) → List ℕ → Command → Type 0
 SpellsCommand names bytes command = SpellsLine names bytes (command_tokens command)
 

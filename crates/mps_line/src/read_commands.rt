@@ -60,6 +60,7 @@ pub enum Verb {
     Back,
     News,
     Show,
+    Stand,
 }
 
 /// Reads all of the bytes as a line of a script: a role's name and its command. `Bad` for other bytes; `Memory` only
@@ -105,7 +106,7 @@ pub fn read_command(alloc: Global, roles: &Roles, bytes: &[u8]) -> Result<Comman
     read_arguments(alloc, roles, verb, rest)
 }
 
-// The command whose verb takes no arguments and is all of the bytes: `commit` or `show`; else `None`.
+// The command whose verb takes no arguments and is all of the bytes: `commit`, `show` or `stand`; else `None`.
 fn lone_command(verb: &[u8]) -> Option<Command>
     ensures read { IfSome result (λ command. verb.now ≡ verb_word (verb_of command)) }
     ensures alone { IfSome result (λ command. arguments command ≡ []) }
@@ -114,11 +115,12 @@ fn lone_command(verb: &[u8]) -> Option<Command>
     match verb {
         b"commit" => Some(Command::Forward(Forward::Commit)),
         b"show" => Some(Command::Show),
+        b"stand" => Some(Command::Stand),
         _ => None,
     }
 }
 
-// The verb in front, and the bytes after it and a space, or `None`. `commit` and `show` are found too, and refused by
+// The verb in front, and the bytes after it and a space, or `None`. `commit`, `show` and `stand` are found too, and refused by
 // `read_argument`. `send` and `recv` are matched whole and the others by two letters: a measured choice, since to match
 // all whole takes more instructions in each line.
 fn split_verb(bytes: &[u8]) -> Option<(Verb, &[u8])>
@@ -137,6 +139,7 @@ fn split_verb(bytes: &[u8]) -> Option<(Verb, &[u8])>
         [b'b', ..] => Some((Verb::Back, after_word(bytes, b"back")?)),
         [b'n', ..] => Some((Verb::News, after_word(bytes, b"news")?)),
         [b's', b'h', ..] => Some((Verb::Show, after_word(bytes, b"show")?)),
+        [b's', b't', ..] => Some((Verb::Stand, after_word(bytes, b"stand")?)),
         [b'c', b'o', ..] => Some((Verb::Commit, after_word(bytes, b"commit")?)),
         _ => None,
     }
@@ -179,7 +182,7 @@ fn read_arguments(
     }
 }
 
-// Reads all of the bytes as the one argument of the verb, or `None`; a commit and a show take none. Apart from the
+// Reads all of the bytes as the one argument of the verb, or `None`; `commit`, `show` and `stand` take none. Apart from the
 // verbs of two arguments, since it does not allocate.
 fn read_argument(roles: &Roles, verb: Verb, bytes: &[u8]) -> Option<Command>
     requires send { verb ≢ Verb.Send }

@@ -59,5 +59,6 @@ pub fn asks_for_change(command: &Command) -> bool
         Command::Back(_) => true,
         Command::News(_) => false,
         Command::Show => false,
+        Command::Stand => false,
     }
 }

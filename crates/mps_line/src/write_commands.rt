@@ -74,6 +74,7 @@ fn write_arguments(roles: &Roles, command: &Command, out: &mut Vec<u8>) -> Resul
         Command::Back(name) => write_name(name, out),
         Command::News(known) => write_count(*known, out),
         Command::Show => Ok(()),
+        Command::Stand => Ok(()),
     }
 }
 
@@ -108,7 +109,7 @@ fn write_forward(roles: &Roles, step: &Forward, out: &mut Vec<u8>) -> Result<(),
     }
 }
 
-// Whether something stands after the command's verb, so that a space is due: for all but `commit` and `show`. Apart, as
+// Whether something stands after the command's verb, so that a space is due: for all but `commit`, `show` and `stand`. Apart, as
 // the definition `TakesArguments` is, by which `read_arguments` goes too; the proof of `push_command` cites both
 // directions.
 fn takes_arguments(command: &Command) -> bool
@@ -122,6 +123,7 @@ fn takes_arguments(command: &Command) -> bool
         Command::Back(_) => true,
         Command::News(_) => true,
         Command::Show => false,
+        Command::Stand => false,
     }
 }
 
@@ -141,5 +143,6 @@ fn verb_word(command: &Command) -> &'static [u8]
         Command::Back(_) => b"back",
         Command::News(_) => b"news",
         Command::Show => b"show",
+        Command::Stand => b"stand",
     }
 }

@@ -6,3 +6,4 @@ pub mod Walks
 pub mod Queued
 pub mod Remarked
 pub mod Settled
+pub mod NewestSteps

@@ -4,14 +4,16 @@
 ghost use Rattle.std.specs.Prelude.{◌≡◌, ◌<◌, ◌==◌, ℕ, None, Some, IsSome};
 ghost use Rattle.std.specs.List.{find};
 ghost use Rattle.std.specs.Option.{option_copied, option_map};
-ghost use Rattle.mps_history.specs.Steps.{step_of};
+ghost use Rattle.mps_history.specs.Steps.{newest_of, step_of};
 ghost use Rattle.mps_history.specs.Dependence.{least, dependents};
 ghost use Rattle.mps_arena.specs.Keys.{last_key};
 ghost use Rattle.mps_arena.specs.KeyedSteps.{steps, keys_of, of_role, keyed_at, AreSound};
 ghost use Rattle.mps_arena.specs.Neighbours.{next_of_role_in, prev_of_role_in, CanGo};
+ghost use Rattle.mps_log.specs.Shown.{shown};
 ghost use Rattle.mps_log.specs.Values.{message_taken};
 
 use crate::log::{Log, taken_at};
+use crate::moves::moved_at;
 use mps_arena::{Before, Key};
 use mps_base::{Message, Role, Step, StepId};
 use mps_links::least_dependent;
@@ -54,6 +56,16 @@ impl Log {
         ensures { result ≡ last_key None (keys_of (of_role role) self.now.keyed_steps) }
     {
         self.arena.last_of(role)
+    }
+
+    /// The role's newest step, with the message that it gave or took, borrowed; `None` where it has none. O(1).
+    pub fn newest_of(&self, role: Role) -> Option<(&Step, Option<&Message>)>
+        requires { role < 8 }
+        ensures { option_map (λ item. (item.0.now, option_copied item.1)) result
+            ≡ newest_of role (shown self.now.keyed_steps self.now.keyed_steps) }
+    {
+        let key = self.arena.last_of(role)?;
+        Some((self.arena.get(key), moved_at(&self.arena, key)))
     }
 
     /// The key of the next step of the same role; `None` for its newest, and where no step has the key. O(1), by the

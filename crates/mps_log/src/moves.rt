@@ -60,9 +60,9 @@ impl<'a> Iterator for Moves<'a> {
     }
 }
 
-// The message that the step of the key gave or took, borrowed; `None` for a mark and a commit. The step has to be
-// there.
-fn moved_at(arena: &Arena, key: Key) -> Option<&Message>
+/// The message that the step of the key gave or took, borrowed; `None` for a mark and a commit. The step has to be
+/// there.
+pub(crate) fn moved_at(arena: &Arena, key: Key) -> Option<&Message>
     requires { IsSome (keyed_at key arena.now.keyed_steps) }
     ensures { option_copied result
         ≡ option_and_then (moved_of arena.now.keyed_steps) (keyed_at key arena.now.keyed_steps) }

@@ -1,2 +1,3 @@
 -- The lemmas of mps_open, a file each.
 mod Causes
+mod Choosing

@@ -41,6 +41,12 @@ GivesNoSession text (Protocol fault) = HasNoOpening text (Protocol fault)
 GivesNoSession text (Projection role name choice) = HasNoOpening text (Projection role name choice)
 GivesNoSession text Memory = length text ≤ 65536
 
+-- why a text isn't read: its first fault, or out of memory, where it is short enough
+abbrev pub IsUnreadText : List ℕ → Fault → Type 0
+IsUnreadText text (Text at kind) = IsTextFault text at kind
+IsUnreadText text Memory = length text ≤ 65536
+IsUnreadText text fault = ⊥
+
 -- how a fault of a text is told
 abbrev pub of_text : ℕ → TextKind → Fault
 of_text at texts.Memory = Memory

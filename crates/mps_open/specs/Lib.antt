@@ -1,2 +1,4 @@
 pub mod Texts
 pub mod Faults
+pub mod Choices
+pub mod Private

@@ -5,8 +5,10 @@
 //! ```
 #![tactic(auto)]
 
+pub mod choice;
 pub mod fault;
 pub mod opening;
 
+pub use choice::choice_text;
 pub use fault::Fault;
 pub use opening::{Opening, open_text};

@@ -1,12 +1,11 @@
 -- The rooms that a server begins with: their names, and what lines led to.
-use Rattle.std.proofs.Common.{◌≡◌, ℕ, List, [], refl, sym, ap, subst, ◌∙◌}
+use Rattle.std.proofs.Common.{◌≡◌, ℕ, List, [], ap}
 use Rattle.std.specs.Prelude.{All}
 use Rattle.mps_local.specs.Local.{LocalType}
 use Rattle.mps_keeper.specs.declared.restored_room.RestoredRoom.{RestoredRoom}
 use Rattle.mps_room.specs.RoomState.{RoomState}
-use Rattle.mps_keeper.specs.Restored.{LinesRestored, standing_of}
 use Rattle.mps_room.specs.Numbers.{newest_of}
-use Rattle.mps_program.specs.Rooms.{IsNewRoom, IsRestoredRoom}
+use Rattle.mps_file.specs.Rooms.{IsNewRoom, IsRestoredRoom}
 
 pub new_named : (names : List (List ℕ)) (types : List LocalType) (rooms : List RestoredRoom) → All (IsNewRoom names types) rooms → All (λ (r : RestoredRoom). r.room.names ≡ names) rooms
 new_named names types rooms all = λ i d less. ap (λ (m : RoomState). m.names) (all i d less).room
@@ -23,16 +22,4 @@ new_restored names types room new = record {
   blank = room.numbers.items;
   none = new.none;
   restored = ap (λ (m : RoomState). record { journal = m.journal; newest = newest_of room.numbers.items }) new.room;
-}
-
--- a new room that lines led on
-pub restored_room : (names : List (List ℕ)) (types : List LocalType) (room after : RestoredRoom) (lines : List (List ℕ)) → IsNewRoom names types room → after.room.names ≡ room.room.names → after.room.types ≡ room.room.types → LinesRestored room.room.names room.room.types (standing_of room) lines (standing_of after)
-    → IsRestoredRoom names types after
-restored_room names types room after lines new same same' h = record {
-  names_are = same ∙ ap (λ (m : RoomState). m.names) new.room;
-  types_are = same' ∙ ap (λ (m : RoomState). m.types) new.room;
-  lines = lines;
-  blank = room.numbers.items;
-  none = new.none;
-  restored = subst (λ (m : RoomState). LinesRestored m.names m.types (record { journal = m.journal; newest = newest_of room.numbers.items }) lines (standing_of after)) new.room h;
 }

@@ -5,7 +5,6 @@ pub mod Ends
 pub mod Faults
 pub mod Files
 pub mod Journals
-pub mod Rooms
 pub mod Served
 pub mod Hosted
 pub mod Streams

@@ -4,6 +4,7 @@ ghost use Rattle.std.specs.Prelude.{◌≡◌};
 use mps_base::{Name, Roles, read_number};
 use mps_line::{LineFault, read_script_line};
 use mps_lines::Line;
+use mps_wire::may_ask;
 use std::alloc::Global;
 
 // How many bytes a text has at most.
@@ -98,9 +99,9 @@ pub(crate) fn flaw_of(alloc: Global, roles: &Roles, line: &Line) -> Option<&'sta
         Line::TooLong => Some("a line has 512 bytes at most"),
         Line::NotAscii => Some("all bytes of a line are ASCII, 127 at most"),
         Line::Text(bytes) => match read_script_line(alloc, roles, bytes.as_slice()) {
-            Ok(_) => None,
+            Ok((_, command)) if may_ask(false, &command) => None,
             Err(LineFault::Memory) => None,
-            Err(LineFault::Bad) => Some(reason(roles, bytes.as_slice())),
+            _ => Some(reason(roles, bytes.as_slice())),
         },
     }
 }

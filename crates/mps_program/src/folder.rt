@@ -3,9 +3,9 @@ ghost use Rattle.std.specs.Prelude.{IfErr};
 ghost use Rattle.mps_program.specs.Journals.{IsFolderFault};
 
 use crate::faults::ToolFault;
-use crate::journal_file::{Note, Unsynced};
 use crate::own_files::OwnFiles;
 use mps_base::read_number;
+use mps_file::{Note, Unsynced};
 use std::alloc::{AllocError, Global};
 use std::collections::BTreeSet;
 use std::fs::{DirBuilder, File};

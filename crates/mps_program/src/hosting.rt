@@ -8,7 +8,6 @@ ghost use Rattle.mps_program.specs.Journals.{IsFolderFault, IsOneFault};
 
 use crate::faults::{ToolFault, told};
 use crate::folder::Begun;
-use crate::journal_file::{FileKeeper, JournalDisk, JournalFile, Unsynced};
 use crate::journals::Folder;
 use crate::load::load_file;
 use crate::own_files::OwnFiles;
@@ -17,6 +16,7 @@ use crate::serving::{listen, lookout_of, tell_fault, tell_lost, tell_port};
 use mps_base::Roles;
 use mps_command::{Answer, Refusal};
 use mps_dev::OverWrite;
+use mps_file::{FileKeeper, JournalDisk, JournalFile, Unsynced};
 use mps_hub::{Host, Hosting, Limits, NotOpened, OpenSession, Register, RestoredRoom, host_all};
 use mps_line::Reply;
 use mps_open::Opening;

@@ -2,7 +2,7 @@
 ghost use Rattle.std.specs.Prelude.{◌≡◌, ◌+◌, ◌<◌, ◌≤◌, ◌^◌, ℕ, Ok, IfErr, IfOk, IfSome, OnOk, All, length, map};
 ghost use Rattle.mps_hub.specs.Places.{IsSession};
 ghost use Rattle.mps_local.specs.Local.{plain};
-ghost use Rattle.mps_program.specs.Rooms.{IsNewRoom, IsRestoredRoom};
+ghost use Rattle.mps_file.specs.Rooms.{IsNewRoom, IsRestoredRoom};
 ghost use Rattle.mps_program.specs.Journals.{IsFolderFault, IsFileFaultOf, IsJournalFault, IsOneFault};
 ghost use Rattle.mps_program.specs.Journals.{of_restoring};
 ghost use Rattle.mps_program.specs.declared.faults.ToolFault.TheVariants.{Memory as OutOfMemory};
@@ -11,24 +11,24 @@ use crate::faults::ToolFault;
 use crate::folder::{
     Begun, has_protocol, make_folder, names, open_own, sync_folders, unusable, write_whole,
 };
-use crate::journal_file::{About, FileKeeper, Note, Unsynced, parted};
 use crate::own_files::OwnFiles;
 use crate::rooms::{room_of, rooms_of};
-use mps_dev::{OverRead, OverWrite};
+use mps_dev::OverWrite;
+use mps_file::{
+    About, FileKeeper, Note, OwnFile, Unsynced, cut_off, held, marked, parted, restore, torn,
+};
 use mps_hub::RestoredRoom;
-use mps_keeper::{Book, Chain, Keeper, RestoreFault, Restored};
+use mps_keeper::{Book, Keeper, RestoreFault, Restored};
 use mps_open::Opening;
-use mps_seal::Seal;
 use mps_text::write_protocol;
 use mps_words::JournalFolder;
 use std::alloc::Global;
 use std::fs::File;
-use std::io::{ErrorKind, Write};
-use std::os::unix::fs::FileExt;
+use std::io::ErrorKind;
 use std::rt::Files;
 use std::sync::Arc;
 use std::sync::atomic::AtomicBool;
-use std::{fs, io, mem};
+use std::{fs, io};
 
 // How many bytes the mark of a file has, with its LF.
 const MARK: u64 = 18;
@@ -149,24 +149,6 @@ fn lost<'a>(session: u64, error: io::Error) -> ToolFault<'a>
     }
 }
 
-// Marks the file of so many lines, where they have no seals so far, by a descriptor of its own. Returned is the chain after
-// it.
-fn marked(alloc: Global, file: &File, about: About, lines: u64, chain: Chain) -> io::Result<Chain> {
-    if chain.is_sealed {
-        return Ok(chain);
-    }
-    let unsynced = Arc::new(alloc, AtomicBool::new(false))?;
-    let (sink, disk) = parted(alloc, file.try_clone()?, about, None, unsynced)?;
-    let mut book = Book::new(OverWrite::new(sink), lines, chain.seal);
-    if book.mark(alloc).is_err() {
-        return Err(disk.newest_error());
-    }
-    Ok(Chain {
-        seal: book.seal(),
-        is_sealed: true,
-    })
-}
-
 // Drops the rooms. Not inlined, so that a room has space on the stack meanwhile alone.
 #[inline(never)]
 fn discard(_rooms: Vec<RestoredRoom>) {}
@@ -174,7 +156,7 @@ fn discard(_rooms: Vec<RestoredRoom>) {}
 // A session's file, what was restored from it, and what has to be noted before its first entry, if something has.
 #[derive(Drop)]
 struct RestoredFile {
-    file: File,
+    file: Arc<OwnFile, Global>,
     restored: Restored,
     note: Option<Note>,
     unsynced: Unsynced,
@@ -284,15 +266,14 @@ impl<'o, 'a> Folder<'o, 'a> {
     fn restore(
         &self,
         session: u64,
-        file: &File,
+        file: &OwnFile,
         room: &mut RestoredRoom,
     ) -> Result<Restored, ToolFault<'a>>
         ensures room { IsNewRoom self.now.opening.now.roles (map plain self.now.opening.now.types.items) room.old
             → OnOk result (IsRestoredRoom self.now.opening.now.roles (map plain self.now.opening.now.types.items) room.new) }
         ensures fault { IfErr result (IsOneFault session) }
     {
-        let first = Seal::first(self.alloc, self.protocol, session)?;
-        match room.restore_from(self.alloc, first, &mut OverRead::new(file)) {
+        match restore(self.alloc, self.protocol, session, file, room) {
             Ok(restored) => Ok(restored),
             Err(fault) => Err(unrestored(session, fault)),
         }
@@ -312,6 +293,7 @@ impl<'o, 'a> Folder<'o, 'a> {
             → OnOk result (IsRestoredRoom self.now.opening.now.roles (map plain self.now.opening.now.types.items) room.new) }
         ensures fault { IfErr result (IsOneFault session) }
     {
+        let file = Arc::new(self.alloc, OwnFile::Std(file))?;
         let restored = self.restore(session, &file, room)?;
         if restored.chain.is_sealed || note.is_some() {
             return Ok(RestoredFile {
@@ -417,23 +399,25 @@ impl<'o, 'a> Folder<'o, 'a> {
         &self,
         rt: &R,
         session: u64,
-        file: &File,
-        whole: u64,
+        file: &OwnFile,
+        restored: &Restored,
         count: u64,
     ) -> io::Result<()> {
-        let mut rest = vec![in self.alloc; 0u8; count as usize]?;
-        file.read_exact_at(rest.as_mut_slice(), whole)?;
         let folder = self.journal.folder;
         let path = format!(in self.alloc; "{folder}/{session}.cut")?;
-        let mut beside = open_own(rt, folder, path.as_str())?;
-        beside.write_all(rest.as_slice())?;
-        if self.journal.sync {
-            beside.sync_all()?;
-        }
+        let beside = OwnFile::Std(open_own(rt, folder, path.as_str())?);
+        cut_off(
+            self.alloc,
+            file,
+            restored,
+            count,
+            &beside,
+            self.journal.sync,
+        )?;
         if self.verbose {
             let _told = eprintln!(rt; "cut journal {session} {count}");
         }
-        file.set_len(whole)
+        Ok(())
     }
 
     // The keeper of the session, whose file is cut to its whole lines, and marked where its lines had no seals so far.
@@ -449,23 +433,19 @@ impl<'o, 'a> Folder<'o, 'a> {
             note,
             unsynced,
         } = read;
-        let whole = restored.bytes as u64;
-        let torn = file.metadata()?.len().saturating_sub(whole);
-        if torn > 0 {
-            self.cut(rt, session, &file, whole, torn)?;
+        let count = torn(&file, &restored)?;
+        if count > 0 {
+            self.cut(rt, session, &file, &restored, count)?;
         }
         let about = About {
             session,
             sync: self.journal.sync,
             verbose: self.verbose,
         };
-        let chain = marked(self.alloc, &file, about, restored.lines, restored.chain)?;
+        let chain = marked(self.alloc, &file, &restored)?;
+        let again = Arc::try_clone(&file)?;
         let (sink, disk) = parted(self.alloc, file, about, note, unsynced)?;
-        if let Err(why) = disk.sync_all() {
-            // the file stays open, and so locked, that no other process takes for kept what the system shows of it
-            mem::forget(disk);
-            return Err(why);
-        }
+        held(&again, disk.sync_all())?;
         let book = Book::new(OverWrite::new(sink), restored.lines, chain.seal);
         Ok(Keeper::new(self.alloc, book, Some(disk))?)
     }

@@ -1,7 +1,7 @@
 //! The rooms that a server begins with.
 ghost use Rattle.std.specs.Prelude.{◌≡◌, ◌≤◌, IfOk, All, length, map};
 ghost use Rattle.mps_local.specs.Local.{plain};
-ghost use Rattle.mps_program.specs.Rooms.{IsNewRoom};
+ghost use Rattle.mps_file.specs.Rooms.{IsNewRoom};
 
 use mps_hub::RestoredRoom;
 use mps_open::Opening;

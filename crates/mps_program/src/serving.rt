@@ -10,13 +10,13 @@ ghost use Rattle.mps_program.specs.Private.Served.{IsHubFault, TellsPort, TookOn
 
 use crate::faults::{ToolFault, report, told, without_reason};
 use crate::files::tell;
-use crate::journal_file::FileKeeper;
 use crate::journals::{Sessions, record_sessions};
 use crate::load::load_file;
 use crate::own_files::OwnFiles;
 use crate::rooms::rooms_of;
 use mps_base::write_number;
 use mps_dev::{OverWrite, Sink};
+use mps_file::FileKeeper;
 use mps_hub::{
     Hub, Limits, Lookout, ServeFault, Serving, Shares, Unguarded, Waits, first_lost, serve_recorded,
 };

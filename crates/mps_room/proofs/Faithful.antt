@@ -6,7 +6,7 @@ use Rattle.mps_command.specs.declared.answer.Refusal.TheVariants.{Violation as V
 use Rattle.mps_command.specs.declared.answer.Violation.TheVariants.{Mismatch}
 use Rattle.mps_command.specs.declared.command.Change.TheVariants as changes
 use Rattle.mps_command.specs.declared.command.Command.{Command}
-use Rattle.mps_command.specs.declared.command.Command.TheVariants.{Forward, Undo, Rollback, Back, News, Show}
+use Rattle.mps_command.specs.declared.command.Command.TheVariants.{Forward, Undo, Rollback, Back, News, Show, Stand}
 use Rattle.mps_fidelity.specs.Fidelity.{AreOfOneProtocol}
 use Rattle.mps_fidelity.proofs.Refusals.{sound_other}
 use Rattle.mps_local.specs.Local.{LocalType}
@@ -27,6 +27,7 @@ run_sound types st (e ∷ j) ok = run_sound types (after_command types st e.role
     after_sound (Back name) = serve_sound types st e.role (changes.Back name) ok
     after_sound (News n) = ok
     after_sound Show = ok
+    after_sound Stand = ok
 
 abbrev pub mismatch : Answer
 mismatch = Refused (Violates Mismatch)

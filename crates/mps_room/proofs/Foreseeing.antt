@@ -9,7 +9,7 @@ use Rattle.mps_command.specs.declared.answer.Refusal.{Refusal}
 use Rattle.mps_command.specs.declared.answer.Refusal.TheVariants.{Full}
 use Rattle.mps_command.specs.declared.command.Change.TheVariants as changes
 use Rattle.mps_command.specs.declared.command.Command.{Command}
-use Rattle.mps_command.specs.declared.command.Command.TheVariants.{Forward, Undo, Rollback, Back, News, Show}
+use Rattle.mps_command.specs.declared.command.Command.TheVariants.{Forward, Undo, Rollback, Back, News, Show, Stand}
 use Rattle.mps_local.specs.Local.{LocalType}
 use Rattle.mps_machine.specs.Faults.{fault, refusal_in}
 use Rattle.mps_machine.specs.Machine.{most_numbers}
@@ -45,6 +45,7 @@ module _ (names : List (List ℕ)) (types : List LocalType) (j : List Entry) (p 
   foreseen_full (Back name) change most e = full_of (length j) _ most e
   foreseen_full (News n) change most e = absurd cc
   foreseen_full Show change most e = absurd cc
+  foreseen_full Stand change most e = absurd cc
 
   -- and with space
   pub foreseen_taken : (c : Command) → length j < most_entries → (run types j).next ≤ most_numbers → fault types (run types j) p c ≡ None → refusal_of (answer_to names types j p c) ≡ None
@@ -54,6 +55,7 @@ module _ (names : List (List ℕ)) (types : List LocalType) (j : List Entry) (p 
   foreseen_taken (Back name) room left e = taken_of (length j) _ room (never_full types (run types j) p (changes.Back name) left) e
   foreseen_taken (News n) room left e = refl
   foreseen_taken Show room left e = refl
+  foreseen_taken Stand room left e = refl
 
   -- a question
   pub foreseen_asked : (c : Command) → (IsSome (change_of c) → ⊥) → refusal_of (answer_to names types j p c) ≡ None
@@ -63,3 +65,4 @@ module _ (names : List (List ℕ)) (types : List LocalType) (j : List Entry) (p 
   foreseen_asked (Back name) none = absurd (none refl)
   foreseen_asked (News n) none = refl
   foreseen_asked Show none = refl
+  foreseen_asked Stand none = refl

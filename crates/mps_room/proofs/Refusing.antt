@@ -10,7 +10,7 @@ use Rattle.mps_command.specs.declared.answer.Refusal.TheVariants.{Full, Memory}
 use Rattle.mps_command.specs.declared.command.Change.{Change}
 use Rattle.mps_command.specs.declared.command.Change.TheVariants as changes
 use Rattle.mps_command.specs.declared.command.Command.{Command}
-use Rattle.mps_command.specs.declared.command.Command.TheVariants.{Forward, Undo, Rollback, Back, News, Show}
+use Rattle.mps_command.specs.declared.command.Command.TheVariants.{Forward, Undo, Rollback, Back, News, Show, Stand}
 use Rattle.mps_local.specs.Local.{LocalType}
 use Rattle.mps_machine.specs.Faults.{fault, refusal_in}
 use Rattle.mps_machine.specs.Answering.{IsChanged}
@@ -56,6 +56,7 @@ lack_answer names types j p c refusal change short left none = by_command c chan
     by_command (Back name) change e = of (changes.Back name) e
     by_command (News n) change e = absurd cc
     by_command Show change e = absurd cc
+    by_command Stand change e = absurd cc
 
 -- what a session refuses, a room does
 pub refused_too : (types : List LocalType) (st new : State) (p n : ℕ) (change : Change) (refusal : Refusal) → n < most_entries → IsChanged types p change (Err refusal) st new → MayAnswer (Refused refusal) (limited n (serve types st p change).0)

@@ -14,7 +14,7 @@ use Rattle.mps_command.specs.declared.answer.Refusal.{Refusal}
 use Rattle.mps_command.specs.declared.answer.Refusal.TheVariants.{Full}
 use Rattle.mps_machine.specs.Answering.{IsAnswer, result_of}
 use Rattle.mps_machine.specs.Machine.{State, initial, serve}
-use Rattle.mps_show.specs.Shown.{show_text}
+use Rattle.mps_show.specs.Shown.{show_text, stand_text}
 use Rattle.mps_room.specs.declared.entry.Entry.{Entry}
 
 -- how many entries a journal has at most
@@ -71,6 +71,7 @@ answer_to names types j p (commands.Rollback n) =
 answer_to names types j p (commands.Back name) = limited (length j) (serve types (run types j) p (changes.Back name)).0
 answer_to names types j p (commands.News n) = News (length j) (news j p n)
 answer_to names types j p commands.Show = Shown (show_text names types (run types j).history)
+answer_to names types j p commands.Stand = Shown (stand_text names types (run types j).history p)
 
 -- the refusal that an answer is, if it is one
 abbrev pub refusal_of : Answer → Option Refusal

@@ -153,7 +153,7 @@ fn undone_by(gist: &Gist) -> &[StepId]
 fn is_change(command: &Command) -> bool
     ensures { IsTrue result ↔ IsSome (change_of command.now) }
 {
-    !matches!(command, Command::News(_) | Command::Show)
+    !matches!(command, Command::News(_) | Command::Show | Command::Stand)
 }
 
 impl Room {

@@ -132,7 +132,7 @@ impl NarrowEntry {
                 }
                 _ => unreachable!(),
             },
-            Command::News(_) | Command::Show => unreachable!(),
+            Command::News(_) | Command::Show | Command::Stand => unreachable!(),
         }
     }
 

@@ -12,7 +12,7 @@ use crate::entry::Entry;
 use crate::heard::Heard;
 use crate::narrow_entry::NarrowEntry;
 use crate::news::news;
-use crate::shown::shown_text;
+use crate::shown::{shown_text, stand_text};
 use crate::steps::Steps;
 use mps_base::{Role, Roles};
 use mps_command::{Answer, Command, Refusal, StepIds};
@@ -176,6 +176,7 @@ impl Room {
         match command {
             Command::News(known) => self.answer_news(role, known),
             Command::Show => self.answer_show(),
+            Command::Stand => self.answer_stand(role),
             _ => self.change(role, command),
         }
     }
@@ -203,6 +204,21 @@ impl Room {
         ensures asked { is_accepted result ≡ false }
     {
         match shown_text(self.alloc, &self.names, &self.session) {
+            Ok(text) => Answer::Shown(text),
+            Err(_) => Answer::Refused(Refusal::Memory),
+        }
+    }
+
+    /// The answer to the question how the role stands, as one line of JSON: what its type allows next, its newest step, and
+    /// its slots; `Refused` with `Memory` when out of memory. O(slots). Not inlined, so that `apply` keeps no space for it.
+    #[inline(never)]
+    pub fn answer_stand(&self, role: Role) -> Answer
+        requires { role < length self.now.types }
+        ensures answer { MayAnswer result
+            (answer_to self.now.names self.now.types self.now.journal role commands.Stand) }
+        ensures asked { is_accepted result ≡ false }
+    {
+        match stand_text(self.alloc, &self.names, &self.session, role) {
             Ok(text) => Answer::Shown(text),
             Err(_) => Answer::Refused(Refusal::Memory),
         }

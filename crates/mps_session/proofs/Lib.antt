@@ -25,5 +25,6 @@ pub mod Pasts
 pub mod SamePast
 pub mod SameProjections
 pub mod StepsNameRoles
+pub mod NewestKnown
 pub mod WhichRefusal
 pub mod FreeStep

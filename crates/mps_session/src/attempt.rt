@@ -79,7 +79,7 @@ impl Session {
             Command::Rollback(id) => Ok(took_back(self.attempt_rollback(role, *id)?)),
             Command::Back(name) => Ok(took_back(self.attempt_back(role, name)?)),
             // excluded by the clause `change`
-            Command::News(_) | Command::Show => unreachable!(),
+            Command::News(_) | Command::Show | Command::Stand => unreachable!(),
         }
     }
 }

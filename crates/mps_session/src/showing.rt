@@ -1,11 +1,12 @@
 //! What a session tells of itself: its roles, its steps, and how each role and each queue stands.
-ghost use Rattle.std.specs.Prelude.{◌≡◌, ◌+◌, ◌<◌, ◌≤◌, ℕ, List, length, slice_get};
+ghost use Rattle.std.specs.Prelude.{◌≡◌, ◌+◌, ◌<◌, ◌≤◌, ℕ, List, length, slice_get, IfSome};
 ghost use Rattle.std.specs.List.{AllByRecursion};
 ghost use Rattle.std.specs.Map.Iter.{deref_pair};
 ghost use Rattle.std.specs.Option.{option_copied, option_map};
 ghost use Rattle.mps_base.specs.declared.value.Value.{Value};
 ghost use Rattle.mps_local.specs.Actions.{head};
 ghost use Rattle.mps_history.specs.Slots.{value_in};
+ghost use Rattle.mps_history.specs.Steps.{newest_of};
 ghost use Rattle.mps_machine.specs.Machine as machine;
 ghost use Rattle.mps_session.specs.Answers.{as_step};
 ghost use Rattle.mps_session.specs.Peers.{HavePeers, IsKnown, IsHeadKnown};
@@ -13,7 +14,7 @@ ghost use Rattle.mps_session.specs.SessionState.{session_view, moves_of};
 ghost use Rattle.mps_table.specs.Expects.{head_of};
 
 use crate::session::Session;
-use mps_base::{Act, Message, Name, Role, Sort, StepId, Value};
+use mps_base::{Act, Message, Name, Role, Sort, Step, StepId, Value};
 use mps_log::{Moves, Queue};
 use mps_table::Expect;
 
@@ -74,6 +75,17 @@ impl Session {
         ensures known { AllByRecursion (λ m. IsKnown (length self.now.types) m.0) result }
     {
         self.configuration.log.moves()
+    }
+
+    /// The role's newest surviving step, with the message that it gave or took, borrowed; `None` where it has none. O(1), by
+    /// the log.
+    pub fn newest_of(&self, role: Role) -> Option<(&Step, Option<&Message>)>
+        requires { role < length self.now.types }
+        ensures newest { option_map (λ item. (item.0.now, option_copied item.1)) result
+            ≡ newest_of role (moves_of self.now) }
+        ensures known { IfSome result (λ item. IsKnown (length self.now.types) item.0.now) }
+    {
+        self.configuration.log.newest_of(role)
     }
 
     /// The role's value in the slot, borrowed; `None` where the slot isn't bound. O(1), by the log; the contract is of

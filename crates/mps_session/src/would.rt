@@ -29,7 +29,7 @@ impl Session {
             Command::Undo(id) => self.would_undo(role, *id),
             Command::Rollback(id) => self.would_rollback(role, *id),
             Command::Back(name) => self.would_back(role, name),
-            Command::News(_) | Command::Show => Ok(()),
+            Command::News(_) | Command::Show | Command::Stand => Ok(()),
         }
     }
 

@@ -13,11 +13,11 @@ use Rattle.mps_base.specs.declared.value.Value.TheVariants.{Int, Bool, Text}
 use Rattle.mps_local.specs.Actions.{Head, Ends, Sends, Receives, Chooses, Picks, head}
 use Rattle.mps_local.specs.Local.{LocalType}
 use Rattle.mps_local.specs.Text.{name_at}
-use Rattle.mps_history.specs.Steps.{numbers, steps_of}
+use Rattle.mps_history.specs.Steps.{newest_of, numbers, steps_of}
 use Rattle.mps_machine.specs.View.{View, Participant}
 use Rattle.mps_machine.specs.Machine.{view_of}
 use Rattle.mps_session.specs.SessionState.{moved_from}
-use Rattle.serde_json.specs.Data.{Data, boolean, number, string, array, object, unsigned, member, no_members}
+use Rattle.serde_json.specs.Data.{Data, null, boolean, number, string, array, object, unsigned, member, no_members}
 use Rattle.serde_json.specs.Find.{of_integer}
 use Rattle.serde_json.specs.View.{items_of}
 use Rattle.serde_json.specs.Written.{compact_text}
@@ -129,3 +129,20 @@ shown names types h =
 -- its text, without blanks
 abbrev pub show_text : List (List ℕ) → List LocalType → List Step → List ℕ
 show_text names types h = compact_text (shown names types h)
+
+-- a step with the message that it gave or took, if there is one
+abbrev pub newest_shown : List (List ℕ) → Option (Step × Option Message) → Data
+newest_shown names None = null
+newest_shown names (Some m) = step_shown names m
+
+-- how role p stands: what it may do next, its newest step, and what it keeps
+abbrev pub stand_shown : List (List ℕ) → List LocalType → List Step → ℕ → Data
+stand_shown names types h p =
+    object
+    (member (codes "expects") (head_shown names (head ((view_of types h).participant p).to_come))
+    (member (codes "newest") (newest_shown names (newest_of p (moved_from types [] h)))
+    (member (codes "store") (row (map binding_shown ((view_of types h).participant p).store)) no_members)))
+
+-- its text, without blanks
+abbrev pub stand_text : List (List ℕ) → List LocalType → List Step → ℕ → List ℕ
+stand_text names types h p = compact_text (stand_shown names types h p)

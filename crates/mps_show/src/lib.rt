@@ -19,4 +19,4 @@ mod text_state;
 pub use examples::worked_states;
 pub use json_state::show;
 pub use laws::{a_shown_text_is_one_line, a_shown_value_has_one_text};
-pub use text_state::{write_expects, write_show};
+pub use text_state::{write_expects, write_show, write_stand};

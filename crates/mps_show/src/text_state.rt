@@ -1,7 +1,7 @@
 //! The shown state, written as text at once.
 ghost use Rattle.std.specs.Prelude.{◌≡◌, ◌<◌, ◌++◌, ◌∷◌, [], ℕ, List, IfOk, OnOk, OnErr, length, map, codes, false};
 ghost use Rattle.std.specs.List.{flat_map, range_with_len};
-ghost use Rattle.mps_history.specs.Steps.{numbers, steps_of};
+ghost use Rattle.mps_history.specs.Steps.{newest_of, numbers, steps_of};
 ghost use Rattle.mps_local.specs.Actions.{head};
 ghost use Rattle.mps_session.specs.SessionState.{session_view, moves_of};
 ghost use Rattle.mps_show.specs.Plain.{IsPlain, ArePlainItems, AreShown};
@@ -9,7 +9,7 @@ ghost use Rattle.mps_show.specs.Private.Rows.{joined, behind, own_number};
 ghost use Rattle.mps_show.specs.Shown.{row, role_name, step_shown, queue_shown, queues_from, queues_shown};
 ghost use Rattle.mps_show.specs.Shown.{waiting_shown, head_shown, number_shown, binding_shown, role_shown, roles_shown};
 ghost use Rattle.mps_base.specs.Spaced.{spaced};
-ghost use Rattle.mps_show.specs.Shown.{head_tokens, shown, show_text};
+ghost use Rattle.mps_show.specs.Shown.{head_tokens, newest_shown, shown, show_text, stand_text};
 ghost use Rattle.serde_json.specs.View.{items_of};
 ghost use Rattle.serde_json.specs.Written.{compact_text};
 
@@ -48,6 +48,49 @@ pub fn write_expects(
         ++ spaced (head_tokens names.now (head ((session_view session.now).participant role).to_come))) }
 {
     put_head(out, names, session, role)
+}
+
+/// Appends how the role stands as compact JSON: an object of what its type allows next, its newest step, and its slots.
+/// O(slots). Out of memory is the only error: a part may stand in `out` then.
+pub fn write_stand(
+    names: &Roles,
+    session: &Session,
+    role: Role,
+    out: &mut Vec<u8>,
+) -> Result<(), AllocError>
+    requires count { length names.now ≡ length session.now.types }
+    requires role { role < length session.now.types }
+    ensures text { OnOk result (out.new.items ≡ out.old.items
+        ++ stand_text names.now session.now.types session.now.state.history role) }
+    ensures shown { OnOk result (AreShown (stand_text names.now session.now.types session.now.state.history role)) }
+{
+    out.extend_from_slice(b"{\"expects\":")?;
+    put_expects(out, names, session, role)?;
+    out.extend_from_slice(b",\"newest\":")?;
+    put_newest(out, names, session, role)?;
+    out.extend_from_slice(b",\"store\":")?;
+    put_store(out, session, role)?;
+    Ok(out.push(b'}')?)
+}
+
+// Appends the role's newest step as a JSON array, or `null` where it has none. When out of memory a part may stand in
+// `out`; the caller drops it.
+fn put_newest(
+    out: &mut Vec<u8>,
+    names: &Roles,
+    session: &Session,
+    role: Role,
+) -> Result<(), AllocError>
+    requires count { length names.now ≡ length session.now.types }
+    requires role { role < length session.now.types }
+    ensures text { OnOk result (out.new.items ≡ out.old.items
+        ++ compact_text (newest_shown names.now (newest_of role (moves_of session.now)))) }
+    ensures plain { OnOk result (IsPlain (newest_shown names.now (newest_of role (moves_of session.now)))) }
+{
+    match session.newest_of(role) {
+        Some((step, moved)) => put_step(out, names, step, moved),
+        None => out.extend_from_slice(b"null"),
+    }
 }
 
 // Appends the whole state as a JSON object. When out of memory a part may stand in `out`, which is `write_show`'s

@@ -115,7 +115,7 @@ fn session_answer(session: &mut Session, role: Role, command: Command) -> Option
         Command::Undo(id) => Some(undo_answer(session, role, id)),
         Command::Rollback(id) => Some(undone(session.rollback(role, id))),
         Command::Back(name) => Some(undone(session.back(role, &name))),
-        Command::News(_) | Command::Show => None,
+        Command::News(_) | Command::Show | Command::Stand => None,
     }
 }
 

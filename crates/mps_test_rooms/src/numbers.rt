@@ -71,7 +71,9 @@ fn numbered<C: Caller>(alloc: Global, caller: &mut C, line: &str) -> Result<Told
     let (number, change) = read_numbered(alloc, caller.roles(), line.as_bytes())?;
     let number = number.ok_or("a number")?;
     match change {
-        Command::News(_) | Command::Show => Err("a numbered command that changes something".into()),
+        Command::News(_) | Command::Show | Command::Stand => Err(
+            "a numbered command that changes something".into(),
+        ),
         change => Ok(call_numbered(caller, number, change)),
     }
 }

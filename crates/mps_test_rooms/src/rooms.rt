@@ -513,6 +513,12 @@ fn shown_text(alloc: Global, room: &mut Room) -> Result<String, Fail> {
     told(alloc, &answer)
 }
 
+// How the role stands, as it is answered.
+fn stand_text(alloc: Global, room: &mut Room, role: Role) -> Result<String, Fail> {
+    let answer = answered(room, role, Command::Stand)?;
+    told(alloc, &answer)
+}
+
 // The text of the value that shows the session.
 fn value_text(alloc: Global, room: &Room) -> Result<String, Fail> {
     Ok(room.show()?.to_string(alloc)?)
@@ -531,6 +537,23 @@ const THOUSAND_SHOWN: usize = 2 * (3_293 + 1_099) + 1_100 * 17 + AROUND_THEM.len
 // The session as it is shown without a step.
 const AROUND_THEM: &str =
     r#"{"history":[],"queues":[],"roles":[{"expects":"send b int","past":[],"role":"a","store":[]},{"expects":"recv a int","past":[],"role":"b","store":[]}]}"#;
+
+// `mps_room::Room::apply` answers `Stand` of the role that asks, here a after its mark, and b, which did nothing.
+#[test]
+fn a_room_answers_how_the_asking_role_stands(rt: HostRuntime) -> Result<(), Fail> {
+    let mut room = marked(rt.alloc(), 1)?;
+    assert_eq!(rt;
+        stand_text(rt.alloc(), &mut room, Role::new(0))?.as_str(),
+        r#"{"expects":"send b int","newest":[1,"a","mark","m"],"store":[]}"#,
+        "a's"
+    );
+    assert_eq!(rt;
+        stand_text(rt.alloc(), &mut room, Role::new(1))?.as_str(),
+        r#"{"expects":"recv a int","newest":null,"store":[]}"#,
+        "b's"
+    );
+    Ok(())
+}
 
 // `mps_room::Room::show`: its text and its value have the same length, that of 1,100 marks and what stands around them.
 #[test]

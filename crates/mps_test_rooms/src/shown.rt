@@ -6,7 +6,7 @@ use mps_base::{Name, Role, Roles, Sort};
 use mps_command::Command;
 use mps_local::Local;
 use mps_session::Session;
-use mps_show::{show, write_show};
+use mps_show::{show, write_show, write_stand};
 use std::alloc::Global;
 use std::test::Fail;
 
@@ -59,7 +59,7 @@ fn is_written(alloc: Global, written: &str, wanted: &str) -> Result<(), Fail> {
         Ok(())
     } else {
         Err(format!(in alloc;
-            "write_show after 2 other bytes: found {written}, wanted {wanted} behind them"
+            "after 2 other bytes: found {written}, wanted {wanted} behind them"
         )?.into())
     }
 }
@@ -153,6 +153,83 @@ const TAKEN_BACK: &[Row] = &[
 #[test]
 fn steps_taken_back_are_not_shown(rt: HostRuntime) -> Result<(), Fail> {
     plays_anew(rt.alloc(), VERDICT, TAKEN_BACK)
+}
+
+// How a role stands, after other bytes.
+fn stands(alloc: Global, names: &Roles, session: &Session, role: Role) -> Result<String, Fail> {
+    if names.count() != session.roles() || role.index() >= session.roles() {
+        return Err("a name for each role".into());
+    }
+    let mut written = Vec::from_slice(alloc, b"> ")?;
+    write_stand(names, session, role, &mut written)?;
+    Ok(String::from_utf8(written)?)
+}
+
+// What roles do in turn, and how one stands then.
+type Stand = (&'static [&'static str], u8, &'static str);
+
+// Whether each row comes out as it is wanted, one after the other in a new session of the protocol.
+fn stands_anew(alloc: Global, protocol: &str, rows: &[Stand]) -> Result<(), Fail> {
+    let (names, mut session) = opened(alloc, protocol)?;
+    for (lines, place, wanted) in rows {
+        for line in *lines {
+            does(alloc, &names, &mut session, line)?;
+        }
+        let found = stands(alloc, &names, &session, Role::new(*place))?;
+        is_written(alloc, found.as_str(), wanted)?;
+    }
+    Ok(())
+}
+
+// How roles of VERDICT stand before the first step, after a send, a receipt, a mark, a choice and a pick, and after steps
+// were taken back, of which one had taken another's.
+const STANDS: &[Stand] = &[
+    (
+        &[],
+        0,
+        r#"{"expects":"send b int","newest":null,"store":[]}"#,
+    ),
+    (
+        &["a send b 5"],
+        0,
+        r#"{"expects":"pick c ok no","newest":[1,"a","send","b",5],"store":[]}"#,
+    ),
+    (
+        &["b recv a x"],
+        1,
+        r#"{"expects":"send c int","newest":[2,"b","recv","a","x",5],"store":[["x",5]]}"#,
+    ),
+    (
+        &["b mark m"],
+        1,
+        r#"{"expects":"send c int","newest":[3,"b","mark","m"],"store":[["x",5]]}"#,
+    ),
+    (
+        &["b send c 7", "c recv b y", "c choose a ok"],
+        2,
+        r#"{"expects":"end","newest":[6,"c","choose","a","ok"],"store":[["y",7]]}"#,
+    ),
+    (
+        &["a pick c"],
+        0,
+        r#"{"expects":"end","newest":[7,"a","pick","c","ok"],"store":[]}"#,
+    ),
+    (
+        &["b rollback 4"],
+        0,
+        r#"{"expects":"pick c ok no","newest":[1,"a","send","b",5],"store":[]}"#,
+    ),
+    (
+        &[],
+        2,
+        r#"{"expects":"recv b int","newest":null,"store":[]}"#,
+    ),
+];
+
+// `mps_show::write_stand` tells of one role what it expects, its newest step that survives, and what it keeps.
+#[test]
+fn a_role_is_told_how_it_stands(rt: HostRuntime) -> Result<(), Fail> {
+    stands_anew(rt.alloc(), VERDICT, STANDS)
 }
 
 // a gives b a text, a bool, an int and a text.

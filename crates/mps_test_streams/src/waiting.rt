@@ -97,6 +97,19 @@ const WAITING: &[(&str, u64, &str, [u64; 4])] = &[
     // any other answer comes at once
     ("wait 7 1 mark m\n", 3, "done 1\n", [0, 0, 7, 1]),
     ("wait 7 recv c x\n", 3, "refused wrongpeer\n", [0, 0, 7, 1]),
+    // so does how the role stands, with `wait` or without
+    (
+        "wait 7 stand\nstand\n",
+        3,
+        "{\"expects\":\"recv a int\",\"newest\":null,\"store\":[]}\n{\"expects\":\"recv a int\",\"newest\":null,\"store\":[]}\n",
+        [0, 0, 7, 1],
+    ),
+    (
+        "1 stand\nwait 7 1 stand\nstand b\n",
+        3,
+        "refused line\nrefused line\nrefused line\n",
+        [0, 0, 7, 1],
+    ),
     // the line that follows is read as each is
     ("wait 7 nothing\n", 3, "refused line\n", [0, 0, 7, 1]),
     ("wait 7 wait 7 news 0\n", 3, "refused line\n", [0, 0, 7, 1]),
@@ -145,12 +158,12 @@ fn answered(alloc: Global, lines: &str) -> Result<Vec<u8>, Fail> {
     Ok(Vec::from_slice(alloc, writer.bytes())?)
 }
 
-// `mps_wire::converse` calls a line bad that wants to wait, and runs nothing.
+// `mps_wire::converse` calls a line bad that wants to wait, and runs nothing; so it does with `stand`.
 #[test]
 fn without_a_vigil_no_line_waits(rt: HostRuntime) -> Result<(), Fail> {
-    let told = answered(rt.alloc(), "wait 7 1 mark m\nnews 0\n")?;
+    let told = answered(rt.alloc(), "wait 7 1 mark m\nstand\nnews 0\n")?;
     assert!(rt;
-        told.as_slice() == "refused line\nnews 0\n".as_bytes(),
+        told.as_slice() == "refused line\nrefused line\nnews 0\n".as_bytes(),
         "what is answered"
     );
     Ok(())

@@ -65,6 +65,7 @@ fn shown(rt: &(impl Abort + AllocGlobal), command: &Command) -> String {
         Command::Back(name) => worded(rt, "goes back to", name.as_bytes()),
         Command::News(known) => numbered(rt, "asks what came after", *known),
         Command::Show => alone(rt, "asks for the session"),
+        Command::Stand => alone(rt, "asks how it stands"),
     }
 }
 
@@ -98,6 +99,7 @@ const SCRIPT_LINES: &[(&str, usize, &str)] = &[
     ("a back m", 0, "goes back to m"),
     ("c news 7", 2, "asks what came after 7"),
     ("b show", 1, "asks for the session"),
+    ("c stand", 2, "asks how it stands"),
 ];
 
 // Whether the line is read as its row says.
@@ -178,6 +180,9 @@ const BAD_LINES: &[&str] = &[
     "a 1 commit",
     // questions: a space too many, a number in another spelling, no role
     "a show ",
+    "a stand ",
+    "a stand b",
+    "a stan",
     "a news 01",
     "show",
     "news 0",
@@ -254,6 +259,7 @@ const COMMANDS: &[(&str, &str)] = &[
         "asks what came after 18446744073709551615",
     ),
     ("show", "asks for the session"),
+    ("stand", "asks how it stands"),
 ];
 
 // Whether the line is read as that command, also when it is written again.
@@ -404,6 +410,7 @@ const NUMBERED: &[(&str, Option<u64>, &str)] = &[
     ("undo 3", None, "undo 3"),
     ("news 0", None, "news 0"),
     ("show", None, "show"),
+    ("stand", None, "stand"),
 ];
 
 // Whether the command is written so.

@@ -21,6 +21,7 @@ const COMMANDS: &[&str] = &[
     "back m",
     "news 9",
     "show",
+    "stand",
 ];
 
 // How the command is shown.

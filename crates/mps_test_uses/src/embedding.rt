@@ -3,7 +3,7 @@ use crate::sessions::RELAY;
 use mps_dev::{Short, Sink};
 use mps_embed::{Embedded, FileRoom};
 use mps_keeper::{Book, LONGEST_LINE, RestoredRoom};
-use mps_open::open_text;
+use mps_open::{choice_text, open_text};
 use mps_seal::Seal;
 use std::alloc::Global;
 use std::process::Abort;
@@ -45,6 +45,10 @@ fn embeds(rt: &impl Abort, alloc: Global, room: &mut FileRoom) {
         "the same answer in a vector"
     );
     assert!(rt; gets(room, b"z", b"mark m", b"refused norole"), "no role z");
+    assert!(rt;
+        gets(room, b"a", b"stand", b"refused line"),
+        "no line waits"
+    );
 }
 
 // There are two entries, of which the first has 10 bytes, and no third.
@@ -200,4 +204,29 @@ fn a_text_that_gives_no_session_is_told_why(rt: HostRuntime) {
         gives_none(alloc, unmerged, 50, 0),
         "no type for c, for choice 0"
     );
+}
+
+// A protocol whose choices are in one another, in a loop, and one after the other.
+const CHOICES: &[u8] =
+    b"roles a b c d ; a -> b { l : c -> d : int . b -> a { m : a -> c : int . end , n : end } , r : rec X . d -> c { s : X , t : end } }";
+
+// Whether these are the words of that choice of the text.
+fn has_words(alloc: Global, text: &[u8], number: u64, words: &[u8]) -> bool {
+    match choice_text(alloc, text, number) {
+        Ok(found) => found.as_slice() == words,
+        Err(_) => false,
+    }
+}
+
+// `mps_open::choice_text` gives the words of a choice by its number in preorder; none past the last; and a text that can't be
+// read is a fault.
+#[test]
+fn a_choice_is_told_by_its_number(rt: HostRuntime) {
+    let alloc = rt.alloc();
+    assert!(rt; has_words(alloc, CHOICES, 0, b"a b l r"), "the first");
+    assert!(rt; has_words(alloc, CHOICES, 1, b"b a m n"), "one in it");
+    assert!(rt; gives_none(alloc, CHOICES, 50, 1), "it is c's fault");
+    assert!(rt; has_words(alloc, CHOICES, 2, b"d c s t"), "the last");
+    assert!(rt; has_words(alloc, CHOICES, 3, b""), "no other");
+    assert!(rt; choice_text(alloc, b"roles a b", 0).is_err(), "no text");
 }

@@ -4,9 +4,10 @@ use Rattle.std.specs.Io.KnownBytes.{Appends}
 use Rattle.std.proofs.lemmas.Bool.{cases_lt}
 use Rattle.std.proofs.lemmas.List.{take-append-drop}
 use Rattle.std.specs.List.{AllByRecursion}
+use Rattle.mps_base.specs.RoleLists.{AreDistinct}
 use Rattle.mps_base.specs.Values.{IsShown}
 use Rattle.mps_command.specs.declared.command.Command.{Command}
-use Rattle.mps_line.specs.Commands.{SpellsNumbered}
+use Rattle.mps_line.specs.Commands.{MayHaveNumber, SpellsNumbered}
 use Rattle.mps_line.specs.Replies.{SpellsReply}
 use Rattle.mps_line.specs.declared.write_replies.Reply.{Reply}
 use Rattle.mps_lines.specs.Lines.{ended, max_line, most_kept, front}
@@ -14,38 +15,49 @@ use Rattle.mps_lines.proofs.Splitting.{front_short}
 use Rattle.mps_room.specs.declared.caller.Caller.{Ghosts}
 use Rattle.mps_wire.specs.Sending.{TookFront}
 use Rattle.mps_wire.specs.Conversations.{IsRequest, RepliesTo, Unread, Called, Numbered, Starved, RepliesInTime, AtOnce, Later, RepliesInText, ConversesLine, ConversesBrokenOff}
+use Rattle.mps_wire.specs.Uncalled.{MayAsk}
 use Rattle.mps_wire.specs.Private.Endings.{IsWholly, IsBrokenOff}
 use Rattle.mps_wire.proofs.Answering.{GoesByFront}
 use Rattle.mps_wire.proofs.Bytes.{Appends-none}
 use Rattle.mps_wire.proofs.Serving.{shown_ascii}
 use Rattle.mps_wire.proofs.Taking.{IsWholeBroken}
 
+-- a line that spells `stand`, where that may not be asked, spells no other command
+pub only_stand : (one : (names : List (List ℕ)) (a : List ℕ) (m n : Option ℕ) (c d : Command) → AreDistinct names → SpellsNumbered names a m c → SpellsNumbered names a n d → c ≡ d) (waits : Bool) (names known : List (List ℕ)) (line : List ℕ) (given : Option ℕ) (command : Command) → known ≡ names → AreDistinct known → SpellsNumbered known line given command → (MayAsk waits command → ⊥) → (number : Option ℕ) (other : Command) → IsRequest waits names line number other → ⊥
+only_stand one waits names known line given command same distinct read denied number other r =
+    let spelled = subst (λ (n : List (List ℕ)). SpellsNumbered n line number other) (sym same) r.spelled in
+    denied (subst (MayAsk waits) (one known line number given other command distinct spelled read) r.allowed)
+
+-- what may have a number may be asked anywhere
+pub change_may : (waits : Bool) (command : Command) → MayHaveNumber command → MayAsk waits command
+change_may waits command asks = grind arith
+
 -- a line that was read, by the names that are known, is a request
-pub request : (names known : List (List ℕ)) (line : List ℕ) (number given : Option ℕ) (command : Command) → length line ≤ max_line → known ≡ names → given ≡ number → (SpellsNumbered names line number command → AllByRecursion IsShown line) → SpellsNumbered known line given command → IsRequest names line number command
-request names known line number given command short e f shown read = grind (arith, shown_ascii)
+pub request : (waits : Bool) (names known : List (List ℕ)) (line : List ℕ) (number given : Option ℕ) (command : Command) → length line ≤ max_line → known ≡ names → given ≡ number → (SpellsNumbered names line number command → AllByRecursion IsShown line) → SpellsNumbered known line given command → MayAsk waits command → IsRequest waits names line number command
+request waits names known line number given command short e f shown read allowed = grind (arith, shown_ascii)
 
 module _ {C : Type 0} (caller : Ghosts C) where
   -- of a line that is too long the front says enough
-  long_line : (line : List ℕ) (c d : C) (reply : Reply) → most_kept < length line → RepliesTo caller (front line) c reply d → RepliesTo caller line c reply d
-  long_line line c d reply long r = by_case r
+  long_line : (waits : Bool) (line : List ℕ) (c d : C) (reply : Reply) → most_kept < length line → RepliesTo caller waits (front line) c reply d → RepliesTo caller waits line c reply d
+  long_line waits line c d reply long r = by_case r
     where
       n : length (front line) ≡ most_kept
       n = length-take most_kept line ∙ (let m : min most_kept (length line) ≡ most_kept = omega arith in m)
 
-      by_case : RepliesTo caller (front line) c reply d → RepliesTo caller line c reply d
+      by_case : RepliesTo caller waits (front line) c reply d → RepliesTo caller waits line c reply d
       by_case (Unread u) = Unread (record { unreadable = λ number command readable. let s = readable.short in absurd (omega arith); bad = u.bad; unchanged = u.unchanged })
       by_case (Called s) = let short = s.readable.short in absurd (omega (arith, n))
       by_case (Numbered s) = let short = s.readable.short in absurd (omega (arith, n))
       by_case (Starved s) = let short = s.readable.short in absurd (omega (arith, n))
 
   -- a long line's front is not read either
-  long_front : (line : List ℕ) (c d : C) (reply : Reply) → most_kept < length line → RepliesTo caller line c reply d → RepliesTo caller (front line) c reply d
-  long_front line c d reply long r = by_case r
+  long_front : (waits : Bool) (line : List ℕ) (c d : C) (reply : Reply) → most_kept < length line → RepliesTo caller waits line c reply d → RepliesTo caller waits (front line) c reply d
+  long_front waits line c d reply long r = by_case r
     where
       n : length (front line) ≡ most_kept
       n = length-take most_kept line ∙ (let m : min most_kept (length line) ≡ most_kept = omega arith in m)
 
-      by_case : RepliesTo caller line c reply d → RepliesTo caller (front line) c reply d
+      by_case : RepliesTo caller waits line c reply d → RepliesTo caller waits (front line) c reply d
       by_case (Unread u) = Unread (record { unreadable = λ number command readable. let s = readable.short in absurd (omega (arith, n)); bad = u.bad; unchanged = u.unchanged })
       by_case (Called s) = let short = s.readable.short in absurd (omega arith)
       by_case (Numbered s) = let short = s.readable.short in absurd (omega arith)
@@ -61,7 +73,7 @@ module _ {C : Type 0} (caller : Ghosts C) where
         n = length-take most_kept line ∙ (let m : min most_kept (length line) ≡ most_kept = omega arith in m)
 
         by_case : RepliesInTime caller waits line c reply d → RepliesInTime caller waits (front line) c reply d
-        by_case (AtOnce none at_once) = AtOnce (λ limit rest waiting. let short = waiting.short in absurd (omega (arith, n))) (long_front line c d reply long at_once)
+        by_case (AtOnce none at_once) = AtOnce (λ limit rest waiting. let short = waiting.short in absurd (omega (arith, n))) (long_front waits line c d reply long at_once)
         by_case (Later w) = let short = w.waiting.short in absurd (omega arith)
 
     long_line_in_time : (line : List ℕ) (c d : C) (reply : Reply) → most_kept < length line → RepliesInTime caller waits (front line) c reply d → RepliesInTime caller waits line c reply d
@@ -71,7 +83,7 @@ module _ {C : Type 0} (caller : Ghosts C) where
         n = length-take most_kept line ∙ (let m : min most_kept (length line) ≡ most_kept = omega arith in m)
 
         by_case : RepliesInTime caller waits (front line) c reply d → RepliesInTime caller waits line c reply d
-        by_case (AtOnce none at_once) = AtOnce (λ limit rest waiting. let short = waiting.short in absurd (omega arith)) (long_line line c d reply long at_once)
+        by_case (AtOnce none at_once) = AtOnce (λ limit rest waiting. let short = waiting.short in absurd (omega arith)) (long_line waits line c d reply long at_once)
         by_case (Later w) = let short = w.waiting.short in absurd (omega (arith, n))
 
     -- what a line does, its front does

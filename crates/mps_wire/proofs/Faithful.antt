@@ -1,5 +1,5 @@
 -- What lines answer a script or a conversation in a session of one protocol.
-use Rattle.std.proofs.Common.{arith, ◌≡◌, ◌≢◌, ⊎_elim, ℕ, zero, suc, Bool, List, [], ◌∷◌, ◌++◌, refl, sym, ap, ◌∙◌, subst, append_assoc, append-nil}
+use Rattle.std.proofs.Common.{arith, ◌≡◌, ◌≢◌, ⊎_elim, ℕ, zero, suc, Bool, true, List, [], ◌∷◌, ◌++◌, refl, sym, ap, ◌∙◌, subst, append_assoc, append-nil}
 use Rattle.std.specs.Prelude.{codes, ⊤}
 use Rattle.std.specs.List.{AllByRecursion, flat_map}
 use Rattle.std.proofs.lemmas.Option.{same_Some}
@@ -98,18 +98,18 @@ module _ (one_reply : (a : List ℕ) (r s : Reply) → SpellsReply a r → Spell
   -- ---- conversations
 
   module _ {C : Type 0} (caller : Ghosts C) (types : C → List LocalType) (none : MeetsNoMismatch caller types) where
-    reply_free : (line : List ℕ) (c : C) (r : Reply) (d : C) → HasNoMismatch caller types c → conversations.RepliesTo caller line c r d → (r ≢ mismatched) × HasNoMismatch caller types d
-    reply_free line c r d free others = grind (arith, same_Some)
+    reply_free : (waits : Bool) (line : List ℕ) (c : C) (r : Reply) (d : C) → HasNoMismatch caller types c → conversations.RepliesTo caller waits line c r d → (r ≢ mismatched) × HasNoMismatch caller types d
+    reply_free waits line c r d free others = grind (arith, same_Some)
 
     looks_free : (line : List ℕ) (n : ℕ) (c d : C) → HasNoMismatch caller types c → conversations.LooksInVain caller line n c d → HasNoMismatch caller types d
     looks_free line zero c d free l = subst (HasNoMismatch caller types) (sym l) free
-    looks_free line (suc n) c d free l = (reply_free line l.0 l.1 d (looks_free line n c l.0 free l.2) l.3).1
+    looks_free line (suc n) c d free l = (reply_free true line l.0 l.1 d (looks_free line n c l.0 free l.2) l.3).1
 
     -- Lines that may wait, or may not.
     module _ (waits : Bool) where
       in_time_free : (line : List ℕ) (c : C) (r : Reply) (d : C) → HasNoMismatch caller types c → conversations.RepliesInTime caller waits line c r d → (r ≢ mismatched) × HasNoMismatch caller types d
-      in_time_free line c r d free (conversations.AtOnce none at_once) = reply_free line c r d free at_once
-      in_time_free line c r d free (conversations.Later w) = reply_free w.rest w.mid r d (looks_free w.rest w.looks c w.mid free w.in_vain) w.replies
+      in_time_free line c r d free (conversations.AtOnce none at_once) = reply_free waits line c r d free at_once
+      in_time_free line c r d free (conversations.Later w) = reply_free true w.rest w.mid r d (looks_free w.rest w.looks c w.mid free w.in_vain) w.replies
 
       conversed_line : (line : List ℕ) (c : C) (text : List ℕ) (d : C) → HasNoMismatch caller types c → conversations.RepliesInText caller waits line c text d → IsFit text × HasNoMismatch caller types d
       conversed_line line c text d free a =

@@ -1,5 +1,5 @@
 -- A conversation makes just its accepted commands, and leaves what no call changes.
-use Rattle.std.proofs.Common.{arith, ◌≡◌, ℕ, zero, suc, Bool, List, [], ◌∷◌, ◌++◌, sym, ap, ◌∙◌, append_assoc, append-nil}
+use Rattle.std.proofs.Common.{arith, ◌≡◌, ℕ, zero, suc, Bool, true, List, [], ◌∷◌, ◌++◌, sym, ap, ◌∙◌, append_assoc, append-nil}
 use Rattle.mps_command.specs.declared.answer.Answer.{Answer}
 use Rattle.mps_command.specs.declared.command.Command.{Command}
 use Rattle.mps_line.specs.declared.write_replies.Reply.{Reply}
@@ -20,17 +20,17 @@ module _ {C F : Type 0} (caller : Ghosts C) (f : C → F) (keeps : (c : C) (x : 
   came_keeps : (c : C) (number : ℕ) (command : Command) (d : C) (came : Told) → IsNumbered caller.calls caller.last caller.kept c number command d came → f d ≡ f c
   came_keeps c number command d came n = grind arith
 
-  pub reply_keeps : (line : List ℕ) (c : C) (reply : Reply) (d : C) → RepliesTo caller line c reply d → f d ≡ f c
-  reply_keeps line c reply d other = grind (arith, came_keeps)
+  pub reply_keeps : (waits : Bool) (line : List ℕ) (c : C) (reply : Reply) (d : C) → RepliesTo caller waits line c reply d → f d ≡ f c
+  reply_keeps waits line c reply d other = grind (arith, came_keeps)
 
   looks_keep : (line : List ℕ) (n : ℕ) (c d : C) → LooksInVain caller line n c d → f d ≡ f c
   looks_keep line zero c d l = ap f l
-  looks_keep line (suc n) c d l = reply_keeps line l.0 l.1 d l.3 ∙ looks_keep line n c l.0 l.2
+  looks_keep line (suc n) c d l = reply_keeps true line l.0 l.1 d l.3 ∙ looks_keep line n c l.0 l.2
 
   module _ (waits : Bool) where
     in_time_keeps : (line : List ℕ) (c : C) (reply : Reply) (d : C) → RepliesInTime caller waits line c reply d → f d ≡ f c
-    in_time_keeps line c reply d (AtOnce none r) = reply_keeps line c reply d r
-    in_time_keeps line c reply d (Later w) = reply_keeps w.rest w.mid reply d w.replies ∙ looks_keep w.rest w.looks c w.mid w.in_vain
+    in_time_keeps line c reply d (AtOnce none r) = reply_keeps waits line c reply d r
+    in_time_keeps line c reply d (Later w) = reply_keeps true w.rest w.mid reply d w.replies ∙ looks_keep w.rest w.looks c w.mid w.in_vain
 
     line_keeps : (line : List ℕ) (c : C) (text : List ℕ) (d : C) → RepliesInText caller waits line c text d → f d ≡ f c
     line_keeps line c text d a = in_time_keeps line c a.reply d a.replies
@@ -59,8 +59,8 @@ module _ {C : Type 0} (caller : Ghosts C) (same_role : (c : C) (x : Command) (a 
   came : (c : C) (number : ℕ) (command : Command) (d : C) (t : Told) (n : IsNumbered caller.calls caller.last caller.kept c number command d t) → caller.made d ≡ caller.made c ++ accepted_anew caller c number command d t n
   came c number command d t n = grind (arith, called, kept)
 
-  one : (line : List ℕ) (c : C) (d : C) (reply : Reply) (r : RepliesTo caller line c reply d) → caller.made d ≡ caller.made c ++ accepted_reply caller line c reply d r
-  one line c d reply r = grind (arith, kept, called, came)
+  one : (waits : Bool) (line : List ℕ) (c : C) (d : C) (reply : Reply) (r : RepliesTo caller waits line c reply d) → caller.made d ≡ caller.made c ++ accepted_reply caller waits line c reply d r
+  one waits line c d reply r = grind (arith, kept, called, came)
 
   more : (first others before mid after : List Entry) → mid ≡ before ++ first → after ≡ mid ++ others → after ≡ before ++ (first ++ others)
   more first others before mid after e f = f ∙ ap (λ (l : List Entry). l ++ others) e ∙ append_assoc before first others
@@ -68,13 +68,13 @@ module _ {C : Type 0} (caller : Ghosts C) (same_role : (c : C) (x : Command) (a 
   looks_make : (line : List ℕ) (n : ℕ) (c d : C) (l : LooksInVain caller line n c d) → caller.made d ≡ caller.made c ++ accepted_looks caller line n c d l
   looks_make line zero c d l = kept c d l
   looks_make line (suc n) c d l =
-      more (accepted_looks caller line n c l.0 l.2) (accepted_reply caller line l.0 l.1 d l.3) (caller.made c) (caller.made l.0) (caller.made d) (looks_make line n c l.0 l.2) (one line l.0 d l.1 l.3)
+      more (accepted_looks caller line n c l.0 l.2) (accepted_reply caller true line l.0 l.1 d l.3) (caller.made c) (caller.made l.0) (caller.made d) (looks_make line n c l.0 l.2) (one true line l.0 d l.1 l.3)
 
   module _ (waits : Bool) where
     in_time_makes : (line : List ℕ) (c : C) (reply : Reply) (d : C) (r : RepliesInTime caller waits line c reply d) → caller.made d ≡ caller.made c ++ accepted_in_time caller waits line c reply d r
-    in_time_makes line c reply d (AtOnce none r) = one line c d reply r
+    in_time_makes line c reply d (AtOnce none r) = one waits line c d reply r
     in_time_makes line c reply d (Later w) =
-        more (accepted_looks caller w.rest w.looks c w.mid w.in_vain) (accepted_reply caller w.rest w.mid reply d w.replies) (caller.made c) (caller.made w.mid) (caller.made d) (looks_make w.rest w.looks c w.mid w.in_vain) (one w.rest w.mid d reply w.replies)
+        more (accepted_looks caller w.rest w.looks c w.mid w.in_vain) (accepted_reply caller true w.rest w.mid reply d w.replies) (caller.made c) (caller.made w.mid) (caller.made d) (looks_make w.rest w.looks c w.mid w.in_vain) (one true w.rest w.mid d reply w.replies)
 
     line_makes : (line : List ℕ) (c : C) (text : List ℕ) (d : C) (a : RepliesInText caller waits line c text d) → caller.made d ≡ caller.made c ++ accepted_line caller waits line c text d a
     line_makes line c text d a = in_time_makes line c a.reply d a.replies

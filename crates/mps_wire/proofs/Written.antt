@@ -5,7 +5,7 @@ use Rattle.mps_base.specs.declared.action.Step.{Step}
 use Rattle.mps_command.specs.Acts.{act_of}
 use Rattle.mps_command.specs.declared.command.Change.TheVariants as changes
 use Rattle.mps_command.specs.declared.command.Command.{Command}
-use Rattle.mps_command.specs.declared.command.Command.TheVariants.{Forward, Undo, Rollback, Back, News, Show}
+use Rattle.mps_command.specs.declared.command.Command.TheVariants.{Forward, Undo, Rollback, Back, News, Show, Stand}
 use Rattle.mps_command.specs.declared.command.Forward.{Forward as Wanted}
 use Rattle.mps_line.specs.Commands.{NamesRolesOf}
 use Rattle.mps_line.specs.JournalLines.{CanBeWritten}
@@ -50,6 +50,7 @@ module _ (names : List (List ℕ)) (types : List LocalType) (peers : HavePeers t
   accepted_written before p (Back name) known e = grind arith
   accepted_written before p (News n) known e = absurd cc
   accepted_written before p Show known e = absurd cc
+  accepted_written before p Stand known e = absurd cc
 
   -- each entry of a journal was accepted
   pub entry_written : (before j : List Entry) (k : ℕ) (e : Entry) → FollowsOn names types before j → slice_get j k ≡ Some e → CanBeWritten names e.role e.command

@@ -15,15 +15,18 @@ use Rattle.mps_room.specs.Numbers.{IsNumbered}
 use Rattle.mps_room.specs.declared.caller.Caller.{Ghosts}
 use Rattle.mps_room.specs.declared.numbers.Told.{Told}
 use Rattle.mps_room.specs.declared.numbers.Told.TheVariants.{Fresh, Kept, Wrong, Refused as CalledInVain}
-use Rattle.mps_wire.specs.Uncalled.{IsUnread, IsStarved}
+use Rattle.mps_wire.specs.Uncalled.{IsUnread, IsStarved, MayAsk}
 use Rattle.mps_wire.specs.declared.reply.Outcome.{Outcome}
 use Rattle.mps_wire.specs.declared.reply.Outcome.TheVariants.{Reply as Said, Kept as AsKept}
 
--- a line that isn't too long, of bytes below 128, that spells a command, with a number or without one
-pub record IsRequest (names : List (List ℕ)) (line : List ℕ) (number : Option ℕ) (command : Command) : Type 0 where
+-- a line that isn't too long, of bytes below 128, that spells a command, with a number or without one, which may be asked
+-- where lines may wait, or may not
+pub record IsRequest (waits : Bool) (names : List (List ℕ)) (line : List ℕ) (number : Option ℕ) (command : Command)
+    : Type 0 where
   pub short : length line ≤ max_line
   pub ascii : IsAscii line
   pub spelled : SpellsNumbered names line number command
+  pub allowed : MayAsk waits command
 
 -- what is told of a command with a number, to a caller that is now d: the answer that it keeps, that the number is
 -- wrong, or the refusal
@@ -45,13 +48,13 @@ BeginsReply reply written =
     (written ≡ [])
     ⊎ ((text : List ℕ) × (unwritten : List ℕ) × SpellsReply text reply × (ended text ≡ written ++ unwritten))
 
--- What one line does to a caller.
-module _ {C : Type 0} (caller : Ghosts C) (line : List ℕ) (c : C) where
+-- What one line does to a caller whose lines may wait, or may not, where this one doesn't.
+module _ {C : Type 0} (caller : Ghosts C) (waits : Bool) (line : List ℕ) (c : C) where
   -- a command without a number: the caller makes one call with it, whose answer is told; the last number and its
   -- answer stay
   pub record IsCalled (reply : Reply) (d : C) : Type 0 where
     pub command : Command
-    pub readable : IsRequest (caller.names c) line None command
+    pub readable : IsRequest waits (caller.names c) line None command
     pub answer : Answer
     pub call : caller.calls c command answer d
     pub last_stays : caller.last d ≡ caller.last c
@@ -62,17 +65,17 @@ module _ {C : Type 0} (caller : Ghosts C) (line : List ℕ) (c : C) where
   pub record IsNumberedCall (reply : Reply) (d : C) : Type 0 where
     pub number : ℕ
     pub command : Command
-    pub readable : IsRequest (caller.names c) line (Some number) command
+    pub readable : IsRequest waits (caller.names c) line (Some number) command
     pub came : Told
     pub numbered : IsNumbered caller.calls caller.last caller.kept c number command d came
     pub told : IsToldAs caller d came reply
 
   -- the reply to the line, and the caller after it
   pub data RepliesTo (reply : Reply) (d : C) : Type 0 where
-    Unread : IsUnread (IsRequest (caller.names c) line) c reply d → RepliesTo reply d
+    Unread : IsUnread (IsRequest waits (caller.names c) line) c reply d → RepliesTo reply d
     Called : IsCalled reply d → RepliesTo reply d
     Numbered : IsNumberedCall reply d → RepliesTo reply d
-    Starved : IsStarved (IsRequest (caller.names c) line) c reply d → RepliesTo reply d
+    Starved : IsStarved (IsRequest waits (caller.names c) line) c reply d → RepliesTo reply d
 
 -- the reply only says that there is nothing yet: no message, or no news
 abbrev pub IsNothingYet : Reply → Type 0
@@ -80,11 +83,12 @@ IsNothingYet (Answered (Refused (Violates NothingQueued))) = ⊤
 IsNothingYet (Answered (News length [])) = ⊤
 IsNothingYet reply = ⊥
 
--- so many replies to the line, one after the other, each of which only says that there is nothing yet
+-- so many replies to the line, where lines may wait, one after the other, each of which only says that there is nothing yet
 abbrev pub LooksInVain : {C : Type 0} → Ghosts C → (line : List ℕ) → ℕ → C → C → Type 0
 LooksInVain caller line zero c d = d ≡ c
 LooksInVain {C} caller line (suc n) c d =
-    (m : C) × (reply : Reply) × LooksInVain caller line n c m × RepliesTo caller line m reply d × IsNothingYet reply
+    (m : C) × (reply : Reply) × LooksInVain caller line n c m × RepliesTo caller true line m reply d
+    × IsNothingYet reply
 
 -- where lines may wait, this one does, for so many milliseconds at most, and is answered as the rest of it is
 pub record IsWaitingLine (waits : Bool) (line : List ℕ) (limit : ℕ) (rest : List ℕ) : Type 0 where
@@ -102,11 +106,11 @@ module _ {C : Type 0} (caller : Ghosts C) (waits : Bool) (line : List ℕ) (c : 
     pub looks : ℕ
     pub mid : C
     pub in_vain : LooksInVain caller rest looks c mid
-    pub replies : RepliesTo caller rest mid reply d
+    pub replies : RepliesTo caller true rest mid reply d
 
   -- the reply to the line, and the caller after it
   pub data RepliesInTime (reply : Reply) (d : C) : Type 0 where
-    AtOnce : ((limit : ℕ) (rest : List ℕ) → IsWaitingLine waits line limit rest → ⊥) → RepliesTo caller line c reply d
+    AtOnce : ((limit : ℕ) (rest : List ℕ) → IsWaitingLine waits line limit rest → ⊥) → RepliesTo caller waits line c reply d
         → RepliesInTime reply d
     Later : RepliesLater reply d → RepliesInTime reply d
 

@@ -1,5 +1,5 @@
 -- The entries that a conversation makes: its accepted commands, in order.
-use Rattle.std.specs.Prelude.{ℕ, zero, suc, Bool, List, [], ◌∷◌, ◌++◌, if◌then◌else◌}
+use Rattle.std.specs.Prelude.{ℕ, zero, suc, Bool, true, List, [], ◌∷◌, ◌++◌, if◌then◌else◌}
 use Rattle.mps_command.specs.declared.answer.Answer.{Answer}
 use Rattle.mps_command.specs.declared.command.Command.{Command}
 use Rattle.mps_line.specs.declared.write_replies.Reply.{Reply}
@@ -27,25 +27,25 @@ module _ {C : Type 0} (caller : Ghosts C) where
   accepted_anew c number command d Wrong n = []
   accepted_anew c number command d (Refused refusal) n = []
 
-  abbrev pub accepted_reply : (line : List ℕ) (c : C) (reply : Reply) (d : C) → RepliesTo caller line c reply d
-      → List Entry
-  accepted_reply line c reply d (Unread u) = []
-  accepted_reply line c reply d (Called s) = accepted_of (caller.role c) s.command s.answer
-  accepted_reply line c reply d (Numbered s) = accepted_anew c s.number s.command d s.came s.numbered
-  accepted_reply line c reply d (Starved s) = []
+  abbrev pub accepted_reply : (waits : Bool) (line : List ℕ) (c : C) (reply : Reply) (d : C)
+      → RepliesTo caller waits line c reply d → List Entry
+  accepted_reply waits line c reply d (Unread u) = []
+  accepted_reply waits line c reply d (Called s) = accepted_of (caller.role c) s.command s.answer
+  accepted_reply waits line c reply d (Numbered s) = accepted_anew c s.number s.command d s.came s.numbered
+  accepted_reply waits line c reply d (Starved s) = []
 
   -- of replies one after the other
   abbrev pub accepted_looks : (line : List ℕ) (n : ℕ) (c d : C) → LooksInVain caller line n c d → List Entry
   accepted_looks line zero c d l = []
-  accepted_looks line (suc n) c d l = accepted_looks line n c l.0 l.2 ++ accepted_reply line l.0 l.1 d l.3
+  accepted_looks line (suc n) c d l = accepted_looks line n c l.0 l.2 ++ accepted_reply true line l.0 l.1 d l.3
 
   -- What lines make that may wait, or may not.
   module _ (waits : Bool) where
     abbrev pub accepted_in_time : (line : List ℕ) (c : C) (reply : Reply) (d : C)
         → RepliesInTime caller waits line c reply d → List Entry
-    accepted_in_time line c reply d (AtOnce none r) = accepted_reply line c reply d r
+    accepted_in_time line c reply d (AtOnce none r) = accepted_reply waits line c reply d r
     accepted_in_time line c reply d (Later w) =
-        accepted_looks w.rest w.looks c w.mid w.in_vain ++ accepted_reply w.rest w.mid reply d w.replies
+        accepted_looks w.rest w.looks c w.mid w.in_vain ++ accepted_reply true w.rest w.mid reply d w.replies
 
     -- of one line
     abbrev pub accepted_line : (line : List ℕ) (c : C) (text : List ℕ) (d : C) → RepliesInText caller waits line c text d

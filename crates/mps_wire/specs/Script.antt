@@ -1,5 +1,5 @@
 -- What a script does to a room, and what it is answered.
-use Rattle.std.specs.Prelude.{◌≡◌, ℕ, ◌≤◌, ◌⊎◌, List, length}
+use Rattle.std.specs.Prelude.{◌≡◌, ℕ, ◌≤◌, ◌⊎◌, false, List, length}
 use Rattle.std.specs.Str.{IsAscii}
 use Rattle.mps_local.specs.Local.{LocalType}
 use Rattle.mps_command.specs.declared.command.Command.{Command}
@@ -12,13 +12,14 @@ use Rattle.mps_room.specs.Journal as journals
 use Rattle.mps_room.specs.Journal.{grown, MayAnswer}
 use Rattle.mps_room.specs.declared.entry.Entry.{Entry}
 use Rattle.mps_lines.specs.Lines.{max_line}
-use Rattle.mps_wire.specs.Uncalled.{IsUnread, IsStarved}
+use Rattle.mps_wire.specs.Uncalled.{IsUnread, IsStarved, MayAsk}
 
 -- a line that isn't too long, of bytes below 128, that spells a role's command
 pub record IsReadable (names : List (List ℕ)) (line : List ℕ) (role : ℕ) (command : Command) : Type 0 where
   pub short : length line ≤ max_line
   pub ascii : IsAscii line
   pub spelled : SpellsScriptLine names line role command
+  pub allowed : MayAsk false command
 
 -- What one line does to a room, of which the journal tells how it stands.
 module _ (names : List (List ℕ)) (types : List LocalType) (line : List ℕ) (journal : List Entry) where

@@ -1,13 +1,18 @@
 -- Lines for which nothing is called, of scripts and of conversations.
-use Rattle.std.specs.Prelude.{◌≡◌, ℕ, List}
+use Rattle.std.specs.Prelude.{◌≡◌, ℕ, Bool, true, List, ⊤}
 use Rattle.mps_base.specs.declared.value.Value.TheVariants.{Text}
 use Rattle.mps_command.specs.declared.answer.Answer.TheVariants.{Refused}
 use Rattle.mps_command.specs.declared.answer.Refusal.TheVariants.{Memory}
 use Rattle.mps_command.specs.declared.command.Command.{Command}
-use Rattle.mps_command.specs.declared.command.Command.TheVariants.{Forward}
+use Rattle.mps_command.specs.declared.command.Command.TheVariants.{Forward, Stand}
 use Rattle.mps_command.specs.declared.command.Forward.TheVariants.{Send}
 use Rattle.mps_line.specs.declared.write_replies.Reply.{Reply}
 use Rattle.mps_line.specs.declared.write_replies.Reply.TheVariants.{Answer as Answered, BadLine}
+
+-- `stand` is asked only where lines may wait
+abbrev pub MayAsk : (waits : Bool) → Command → Type 0
+MayAsk waits Stand = waits ≡ true
+MayAsk waits command = ⊤
 
 -- What a line comes to that is read as `Reads` says: as a command and what stands before it, which is its role in a
 -- script, and its number, or none, in a conversation.

@@ -19,6 +19,6 @@ pub mod waiting;
 
 pub use conversation::{Ending, converse, converse_waiting};
 pub use mps_lines::{Line, Lines};
-pub use reply::{Outcome, take_line, write_outcome};
+pub use reply::{Outcome, may_ask, take_line, write_outcome};
 pub use script::{ReplayFault, replay, replay_session};
 pub use waiting::{Awaited, NoVigil, Vigil, take_line_waiting};

@@ -1,11 +1,12 @@
 //! The reply to one line of a conversation.
-ghost use Rattle.std.specs.Prelude.{◌≡◌, OnOk, OnErr, IsSome};
+ghost use Rattle.std.specs.Prelude.{◌≡◌, OnOk, OnErr, IsSome, IsTrue, ◌↔◌};
 ghost use Rattle.std.specs.Io.{StartsWith};
 ghost use Rattle.mps_base.specs.Appends.{AppendsSuch};
 ghost use Rattle.mps_command.specs.Changes.{change_of};
 ghost use Rattle.mps_line.specs.Replies.{SpellsReply};
 ghost use Rattle.mps_wire.specs.Private.Commands.{RepliesToNumbered};
 ghost use Rattle.mps_wire.specs.Conversations.{RepliesTo, reply_of};
+ghost use Rattle.mps_wire.specs.Uncalled.{MayAsk};
 
 use mps_command::{Answer, Command, Refusal};
 use mps_line::laws::one_numbered;
@@ -39,20 +40,43 @@ fn take_numbered<C: Caller>(caller: &mut C, number: u64, command: Command) -> Ou
     }
 }
 
-/// Runs a line as a command of the caller, if it spells one, and returns what is to be replied. A line over 512 bytes
-/// or unreadable is `BadLine`, and one for whose text there is no memory is refused with `Memory`: neither calls the
-/// caller. It can't fail.
-pub fn take_line<C: Caller>(alloc: Global, caller: &mut C, line: &[u8]) -> Outcome
-    ensures { RepliesTo C.Caller line.now caller.old (reply_of result (C.kept caller.new)) caller.new }
+/// Whether the command may be asked: `stand` only where lines may wait.
+pub fn may_ask(waits: bool, command: &Command) -> bool
+    ensures { IsTrue result ↔ MayAsk waits command.now }
+{
+    match command {
+        Command::Forward(_) => true,
+        Command::Undo(_) => true,
+        Command::Rollback(_) => true,
+        Command::Back(_) => true,
+        Command::News(_) => true,
+        Command::Show => true,
+        Command::Stand => waits,
+    }
+}
+
+/// Runs a line as a command of the caller, if it spells one that may be asked, and returns what is to be replied. A line
+/// over 512 bytes or unreadable is `BadLine`, and one for whose text there is no memory is refused with `Memory`: neither
+/// calls the caller. It can't fail. `waits` says whether lines may wait; this one doesn't.
+pub fn take_line<C: Caller>(alloc: Global, caller: &mut C, waits: bool, line: &[u8]) -> Outcome
+    ensures { RepliesTo C.Caller waits line.now caller.old (reply_of result (C.kept caller.new)) caller.new }
 {
     // for the proof alone
     one_numbered();
     if line.len() > MAX_LINE {
         return Outcome::Reply(Reply::BadLine);
     }
-    match read_numbered(alloc, caller.roles(), line) {
+    let roles = caller.roles();
+    // for the proof alone: no name stands twice
+    let _few = roles.count();
+    match read_numbered(alloc, roles, line) {
         Ok((Some(number), command)) => take_numbered(caller, number, command),
-        Ok((None, command)) => Outcome::Reply(Reply::Answer(caller.call(command))),
+        Ok((None, command)) => {
+            if !may_ask(waits, &command) {
+                return Outcome::Reply(Reply::BadLine);
+            }
+            Outcome::Reply(Reply::Answer(caller.call(command)))
+        }
         Err(LineFault::Bad) => Outcome::Reply(Reply::BadLine),
         Err(LineFault::Memory) => Outcome::Reply(Reply::Answer(Answer::Refused(Refusal::Memory))),
     }

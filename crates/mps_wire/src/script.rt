@@ -16,6 +16,7 @@ ghost use Rattle.mps_wire.specs.Private.Commands.{IsReplied};
 ghost use Rattle.mps_wire.specs.Streams.{streams};
 ghost use Rattle.mps_wire.specs.declared.script.ReplayFault.TheVariants.{Memory as OutOfMemory};
 
+use crate::reply::may_ask;
 use crate::sending::send_all;
 use mps_base::{Role, Roles};
 use mps_command::{Command, Refusal};
@@ -135,9 +136,15 @@ fn reply_to_line(
     if line.len() > MAX_LINE {
         return write_bad_line(answers);
     }
-    match read_script_line(alloc, room.names(), line) {
+    let names = room.names();
+    // for the proof alone: no name stands twice
+    let _few = names.count();
+    match read_script_line(alloc, names, line) {
         Ok(request) => {
             let (role, command) = request;
+            if !may_ask(false, &command) {
+                return write_bad_line(answers);
+            }
             reply_to_command(room, role, command, answers)
         }
         Err(LineFault::Bad) => write_bad_line(answers),

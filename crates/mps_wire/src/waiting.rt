@@ -1,5 +1,5 @@
 //! Lines whose answer waits for what others do.
-ghost use Rattle.std.specs.Prelude.{◌≡◌, ℕ, Bool, false, Option, IfNone, IfSome};
+ghost use Rattle.std.specs.Prelude.{◌≡◌, ℕ, Bool, true, false, Option, IfNone, IfSome};
 ghost use Rattle.mps_command.specs.declared.answer.Answer.{Answer as Response};
 ghost use Rattle.mps_line.specs.declared.write_replies.Reply.{Reply as Said};
 ghost use Rattle.mps_wire.specs.Conversations.{IsNothingYet, LooksInVain, RepliesTo, RepliesInTime, reply_of};
@@ -92,12 +92,12 @@ fn take_in_time<C: Caller, V: Vigil>(
 ) -> Outcome
     ensures waits { V.waits vigil.new ≡ V.waits vigil.old }
     ensures replies { (looks : ℕ) × (mid : C) × LooksInVain C.Caller line.now looks caller.old mid
-        × RepliesTo C.Caller line.now mid (reply_of result (C.kept caller.new)) caller.new }
+        × RepliesTo C.Caller true line.now mid (reply_of result (C.kept caller.new)) caller.new }
 {
     // before the first call: what comes after it ends the rest
     vigil.begin(limit);
     for _ in 0..TRIES {
-        let outcome = take_line(alloc, caller, line);
+        let outcome = take_line(alloc, caller, true, line);
         let goes_on = match still_awaited(&outcome) {
             Some(awaited) => vigil.rest(awaited),
             None => false,
@@ -108,11 +108,11 @@ fn take_in_time<C: Caller, V: Vigil>(
         }
     }
     vigil.end();
-    take_line(alloc, caller, line)
+    take_line(alloc, caller, true, line)
 }
 
-/// Runs a line as `take_line` does. Where answers may wait, a line `wait MILLISECONDS LINE` is run as LINE, and again as long
-/// as its answer would only say that there is nothing yet and the vigil goes on.
+/// Runs a line as `take_line` does. Where answers may wait, `stand` may be asked, and a line `wait MILLISECONDS LINE` is run
+/// as LINE, and again as long as its answer would only say that there is nothing yet and the vigil goes on.
 pub fn take_line_waiting<C: Caller, V: Vigil>(
     alloc: Global,
     caller: &mut C,
@@ -123,8 +123,9 @@ pub fn take_line_waiting<C: Caller, V: Vigil>(
     ensures replies { RepliesInTime C.Caller (V.waits vigil.old) line.now caller.old
         (reply_of result (C.kept caller.new)) caller.new }
 {
-    if line.len() > MAX_LINE || !vigil.waits() {
-        return take_line(alloc, caller, line);
+    let waits = vigil.waits();
+    if line.len() > MAX_LINE || !waits {
+        return take_line(alloc, caller, waits, line);
     }
     match split_wait(line) {
         Some((limit, rest)) => take_in_time(
@@ -134,6 +135,6 @@ pub fn take_line_waiting<C: Caller, V: Vigil>(
             Duration::from_millis(limit),
             rest,
         ),
-        None => take_line(alloc, caller, line),
+        None => take_line(alloc, caller, waits, line),
     }
 }

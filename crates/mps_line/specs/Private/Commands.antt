@@ -5,7 +5,7 @@ use Rattle.mps_line.specs.Commands.{arguments}
 
 -- the verbs after which nothing stands
 abbrev pub lone_verbs : List (List ℕ)
-lone_verbs = codes "commit" ∷ codes "show" ∷ []
+lone_verbs = codes "commit" ∷ codes "show" ∷ codes "stand" ∷ []
 
 -- something stands after the verb
 abbrev pub TakesArguments : Command → Type 0

@@ -4,7 +4,7 @@ use Rattle.std.specs.Prelude.{All, map}
 use Rattle.std.proofs.lemmas.List.Elements.{All-push}
 use Rattle.mps_local.specs.Local.{plain}
 use Rattle.mps_keeper.specs.declared.restored_room.RestoredRoom.{RestoredRoom}
-use Rattle.mps_program.specs.Rooms.{IsNewRoom}
+use Rattle.mps_file.specs.Rooms.{IsNewRoom}
 use Rattle.mps_program.proofs.rooms.rooms_of.Goals as goal
 
 pub loop-preserved : goal.loop-preserved

@@ -2,7 +2,7 @@
 use Rattle.std.proofs.Common.{◌≡◌, ◌≤◌, vec_len, vec_capacity}
 use Rattle.std.specs.Prelude.{All, map}
 use Rattle.mps_local.specs.Local.{plain}
-use Rattle.mps_program.specs.Rooms.{IsNewRoom}
+use Rattle.mps_file.specs.Rooms.{IsNewRoom}
 use Rattle.mps_program.proofs.rooms.rooms_of.Given as goal
 
 abbrev pub invariant-loop : goal.invariant-loop

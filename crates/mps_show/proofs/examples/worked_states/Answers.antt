@@ -1,4 +1,4 @@
--- Proves the law `worked_states`, clauses `a_message_that_waits_is_shown`, `a_received_message_is_shown` and `a_label_that_waits_is_shown`.
+-- Proves the law `worked_states`, all of its clauses.
 use Rattle.std.proofs.Common.{refl}
 use Rattle.std.specs.Fmt.{digits}
 use Rattle.mps_local.specs.Unfolding.{unfolded}
@@ -16,3 +16,11 @@ returns-clause-a_received_message_is_shown c = refl
 pub returns-clause-a_label_that_waits_is_shown : goal.returns-clause-a_label_that_waits_is_shown
 unfolding unfolded serde_json_on_literals digits
 returns-clause-a_label_that_waits_is_shown c = refl
+
+pub returns-clause-a_role_is_told_how_it_stands : goal.returns-clause-a_role_is_told_how_it_stands
+unfolding unfolded serde_json_on_literals digits
+returns-clause-a_role_is_told_how_it_stands c = (refl, refl, refl)
+
+pub returns-clause-a_role_without_steps_is_told : goal.returns-clause-a_role_without_steps_is_told
+unfolding unfolded serde_json_on_literals digits
+returns-clause-a_role_without_steps_is_told c = refl

@@ -1,6 +1,6 @@
 -- `Embedded::run` meets its clauses `answered` and `recorded`, by the lemmas of Speaking.
 use native.Mathlib.Omega.{arith}
-use Rattle.std.proofs.Common.{◌∙◌, length, slice_set, refl, sym, ap}
+use Rattle.std.proofs.Common.{◌∙◌, false, length, slice_set, refl, sym, ap}
 use Rattle.mps_room.specs.Numbers.{kept_of}
 use Rattle.mps_wire.specs.Conversations.{reply_of}
 use Rattle.mps_embed.specs.Diaries.{records_of, taken_of, whole_of}
@@ -20,7 +20,7 @@ returns-clause-answered g c = λ whole.
     t.room t.role
     (omega (arith, t.each, c.requires.known, c.self.invariant, ap (λ (e : EmbeddedState). length e.room.types) c.self.view_is))
     t.numbers t.same
-    (c.a_guest_is_answered_as_its_caller.ensures.replies c.args.line.now _ _ left c.take_line-outcome.ensures)
+    (c.a_guest_is_answered_as_its_caller.ensures.replies false c.args.line.now _ _ left c.take_line-outcome.ensures)
     (told_where_whole (whole_of left.recorder) c.take_line-outcome.result _ kept
     (λ w. c.replace_outcome-2.ensures ∙ c.told-outcome.ensures.told (c.may_tell-2.ensures ∙ w))
     (λ w. c.replace_outcome-2.ensures ∙ c.told-outcome.ensures.lost (c.may_tell-2.ensures ∙ w)))
@@ -38,6 +38,6 @@ returns-clause-recorded g c = λ records whole.
     t.room t.role
     (omega (arith, t.each, c.requires.known, c.self.invariant, ap (λ (e : EmbeddedState). length e.room.types) c.self.view_is))
     t.numbers
-    (c.a_guest_is_answered_as_its_caller.ensures.replies c.args.line.now _ _ left c.take_line-outcome.ensures)
+    (c.a_guest_is_answered_as_its_caller.ensures.replies false c.args.line.now _ _ left c.take_line-outcome.ensures)
     refl refl _ (ap (λ (e : EmbeddedState). e.taken) (sym c.self.view_is))
-    (c.a_guest_is_answered_as_its_caller.ensures.recorded c.args.line.now _ _ left c.take_line-outcome.ensures (ap (λ (e : EmbeddedState). e.records) c.self.view_is ∙ records) whole)
+    (c.a_guest_is_answered_as_its_caller.ensures.recorded false c.args.line.now _ _ left c.take_line-outcome.ensures (ap (λ (e : EmbeddedState). e.records) c.self.view_is ∙ records) whole)

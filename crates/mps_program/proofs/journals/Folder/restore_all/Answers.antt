@@ -4,7 +4,7 @@ use Rattle.std.specs.Prelude.{All, map}
 use Rattle.std.proofs.lemmas.List.Elements.{All-push}
 use Rattle.mps_local.specs.Local.{plain}
 use Rattle.mps_keeper.specs.declared.restored_room.RestoredRoom.{RestoredRoom}
-use Rattle.mps_program.specs.Rooms.{IsRestoredRoom}
+use Rattle.mps_file.specs.Rooms.{IsRestoredRoom}
 use Rattle.mps_program.proofs.Causes.{refused_on}
 use Rattle.mps_program.proofs.journals.Folder.restore_all.Goals as goal
 

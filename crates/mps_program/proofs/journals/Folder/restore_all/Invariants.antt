@@ -3,7 +3,7 @@ use Rattle.std.proofs.Common.{◌≡◌, vec_len}
 use Rattle.std.specs.Prelude.{All, map}
 use Rattle.mps_local.specs.Local.{plain}
 use Rattle.mps_program.specs.Journals.{IsFileFaultOf}
-use Rattle.mps_program.specs.Rooms.{IsRestoredRoom}
+use Rattle.mps_file.specs.Rooms.{IsRestoredRoom}
 use Rattle.mps_program.proofs.journals.Folder.restore_all.Given as goal
 
 abbrev pub invariant-loop-place : goal.invariant-loop-place

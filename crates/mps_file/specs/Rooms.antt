@@ -1,4 +1,4 @@
--- The rooms that a server begins with.
+-- The rooms that sessions begin with.
 use Rattle.std.specs.Prelude.{◌≡◌, ℕ, List, [], None, All}
 use Rattle.mps_local.specs.Local.{LocalType}
 use Rattle.mps_keeper.specs.Restored.{LinesRestored, standing_of}
