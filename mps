@@ -7,7 +7,8 @@
 # tools/look as they were then. Where these lines are the same now, so are the sources: the system sets a file's ctime at
 # each change, and no program can set it otherwise. (Two changes at nearly the same moment may have the same time, so no
 # note is written of sources that were changed within the last seconds.) A note that is missing or isn't whole only costs
-# the time to read the sources.
+# the time to read the sources. Where a package put this there are no sources, and the program stands beside it, with the file
+# `installed`, which tools/sources.py reads.
 
 # a file that may grow no more is a full disk, and no end of the program
 trap '' XFSZ
@@ -19,13 +20,17 @@ refuses() {
     [ -t 2 ] || return 1
     while case $1 in -v | --verbose) true ;; *) false ;; esac; do shift; done
     case $1 in check | run | same | serve | host) shift ;; *) return 1 ;; esac
+    merging=
+    file=
+    before=
     for word; do
-        [ -f "$word" ] || continue
-        "$program" check -- "$word" </dev/null >/dev/null 2>&1
-        [ $? = 3 ]
-        return
+        case $before,$word in --merging,full | *,--merging=full) merging=full ;; esac
+        [ "$before" = --merging ] || [ "$file" ] || ! [ -f "$word" ] || file=$word
+        before=$word
     done
-    return 1
+    [ "$file" ] || return 1
+    "$program" check ${merging:+--merging=full} -- "$file" </dev/null >/dev/null 2>&1
+    [ $? = 3 ]
 }
 
 # The word -v, by which the program says more to the person at the terminal, where these words don't have it yet.
@@ -43,9 +48,12 @@ for order; do
     case $order in -v | --verbose) ;; *) break ;; esac
 done
 case $order in
-'' | --help | -h | help | prove | which | install | explain | journal | library) ;;
+'' | --help | -h | help | prove | which | install | explain | journal | sessions | library | api | package | picture | story) ;;
 *)
-    if [ -r "$note" ] && read -r sources <"$note" && { echo "$sources"; "$here/tools/look"; } | cmp -s - "$note"; then
+    program=$here/mps_tool
+    if [ -f "$here/installed" ]; then
+        refuses "$@" || exec "$program" $(more "$@") "$@"
+    elif [ -r "$note" ] && read -r sources <"$note" && { echo "$sources"; "$here/tools/look"; } | cmp -s - "$note"; then
         for kind in proved checked; do
             program=$here/out/$kind/$sources/mps_tool
             if [ -x "$program" ]; then

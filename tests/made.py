@@ -1,4 +1,5 @@
 """made: protocols and scripts made at random, each from the dice that it is handed."""
+import random
 import re
 
 import reference
@@ -223,6 +224,103 @@ def protocol(dice):
     if 0.15 < kind < 0.23:
         tokens = spoiled(dice, tokens)
     return spaced(dice, tokens).encode("latin-1")
+
+
+# --- Protocols whose third roles are told -----------------------------------------------------------------------------
+
+class Teller:
+    """Makes global types for these roles, of about so many nodes, in which those that take no part in a choice are told of it."""
+
+    def __init__(self, dice, roles, nodes):
+        self.dice, self.roles, self.left = dice, roles, nodes
+
+    def leaf(self, names, often):
+        """A way back to one of these loops, where there is one and the dice say so, or `end`."""
+        return Var(self.dice.choice(names)) if names and self.dice.random() < often else End()
+
+    def wild(self, loops):
+        """A type without a plan. `loops` has the names around, and whether something was done since."""
+        dice, acted = self.dice, dict.fromkeys(loops, True)
+        self.left -= 1
+        kind = dice.random()
+        if self.left <= 0 or kind < 0.12:
+            return self.leaf([name for name, has_acted in loops.items() if has_acted], 0.7)
+        if kind < 0.24 and len(loops) < 3:
+            name = "XYZ"[len(loops)]
+            return Rec(name, self.wild({**loops, name: False}))
+        pair = dice.sample(self.roles, 2)
+        if kind < 0.55:
+            return Message(*pair, dice.choice(SORTS[:2]), self.wild(acted))
+        return Choice(*pair, tuple((label, self.wild(acted)) for label in dice.sample("lmn", dice.choice((1, 2, 2, 3)))))
+
+    def told(self, live, loops):
+        """A type in which these roles act, and are mostly told of a choice by labels of their own. `loops` has the names around,
+        each with the roles that act there, and whether something was done since."""
+        dice = self.dice
+        self.left -= 1
+        kind = dice.random()
+        if self.left <= 0 or len(live) < 2 or kind < 0.06:
+            return self.leaf([name for name, (roles, acted) in loops.items() if acted and roles <= set(live)], 0.75)
+        if kind < 0.3 and len(loops) < 3:
+            name = "XYZ"[len(loops)]
+            return Rec(name, self.told(live, {**loops, name: (set(live), False)}))
+        loops = {name: (roles, True) for name, (roles, _) in loops.items()}
+        pair = dice.sample(live, 2)
+        if kind < 0.5:
+            return Message(*pair, dice.choice(SORTS[:2]), self.told(live, loops))
+        others = dice.sample([role for role in live if role not in pair], len(live) - 2)
+        told = others[:dice.randrange(len(others) + 1)] if dice.random() < 0.25 else others
+        front, steady = self.front(others), dice.random()
+        labels = dice.sample(("more", "stop", "pay", "back"), dice.choice((2, 2, 2, 3)))
+        untold = others[len(told):]
+        return Choice(*pair, tuple((label, in_front(front, self.telling(pair, told, untold, label, loops, steady)))
+                                   for label in labels))
+
+    def front(self, others):
+        """Acts of roles that don't know of a choice yet: each a sender, a receiver, and a sort or labels."""
+        acts = []
+        while len(others) > 1 and self.dice.random() < 0.35:
+            acts.append((*self.dice.sample(others, 2), self.dice.choice((*SORTS[:2], ("q",), ("q", "r")))))
+        return acts
+
+    def telling(self, informed, told, untold, label, loops, steady):
+        """The told ones hear of the branch with that label, one after the other, each from one who knows, and those who know go
+        on. What is decided by `steady` is the same in each branch."""
+        dice = self.dice
+        if not told:
+            return self.told(informed + untold * (dice.random() < 0.1), loops)
+        role, *rest = told
+        same = random.Random(f"{steady} {role}")
+        teller = same.choice(informed) if dice.random() < 0.95 else dice.choice(informed)
+        kind = same.random()
+        then = self.telling([*informed, role], rest, untold, label, loops, steady)
+        if kind < 0.1:
+            return Message(teller, role, "int", then)
+        word = label if kind < 0.85 else "same" if kind < 0.9 else dice.choice("uvw")
+        branches = [(word, then)]
+        if dice.random() < 0.15:
+            branches.append((f"{label}_2", self.telling([*informed, role], rest, untold, label, loops, steady)))
+        return Choice(teller, role, tuple(branches))
+
+
+def in_front(acts, then):
+    """These acts, and then that."""
+    for sender, receiver, what in reversed(acts):
+        if isinstance(what, str):
+            then = Message(sender, receiver, what, then)
+        else:
+            then = Choice(sender, receiver, tuple((label, then) for label in what))
+    return then
+
+
+def told(dice):
+    """The text of a protocol of three to five roles. Full merging accepts a fifth, and half of these plain merging."""
+    roles = list("abcde"[:dice.choice((3, 3, 4, 4, 5))])
+    if dice.random() < 0.15:
+        tree = Teller(dice, roles, dice.randrange(4, 26)).wild({})
+    else:
+        tree = Teller(dice, roles, dice.randrange(6, 40)).told(roles, {})
+    return " ".join(["roles", *roles, ";", *tokens_of(tree)]).encode()
 
 
 # --- Scripts ---------------------------------------------------------------------------------------------------------

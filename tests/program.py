@@ -25,6 +25,16 @@ def find():
     sys.exit(f"tests: ./mps which says {told}")
 
 
+def examples():
+    """The orders of the examples: each with its options, and the texts of its protocol and its scripts."""
+    folder = HOME / "examples"
+    for line in (folder / "commands").read_text(encoding="utf-8").splitlines():
+        order, *words = line.partition(" > ")[0].split() or [""]
+        options = words[:2] if words[:1] == ["--merging"] else []
+        if order in ("check", "run", "same"):
+            yield order, options, *((folder / word).read_bytes() for word in words[len(options):])
+
+
 class Program:
     """The program, with a folder for what it reads."""
 
@@ -50,14 +60,14 @@ class Program:
         fault = told[:-1] if told.endswith("\n") else told and f"{told} (without LF)"
         return reference.Outcome(ran.stdout or b"", fault, ran.returncode)
 
-    def order(self, order, *texts, **more):
-        """What the program comes to with this order, over files with these texts; of two scripts it tells how many lines it
-        refused."""
+    def order(self, order, *texts, options=(), **more):
+        """What the program comes to with this order and these options, over files with these texts; of two scripts it tells how
+        many lines it refused."""
         paths = [os.path.join(self.room.name, str(place)) for place in range(len(texts))]
         for path, text in zip(paths, texts):
             with open(path, "wb") as file:
                 file.write(text)
-        return self.run([*(["-v"] if order == "same" else []), order, *paths], **more)
+        return self.run([*(["-v"] if order == "same" else []), order, *options, *paths], **more)
 
 
 def lost(words, stream, **how):
@@ -103,14 +113,14 @@ def at_terminal(words, **how):
     return out, told.decode().replace("\r\n", "\n"), ran.returncode
 
 
-def keep(name, order, texts):
+def keep(name, order, texts, options=()):
     """Keeps the files of a run under out/tests, and gives the command that repeats it."""
     OUT.mkdir(parents=True, exist_ok=True)
     ends = ("protocol", "script", "second.script")
     paths = [OUT / f"{name}.{end}" for end, _ in zip(ends, texts)]
     for path, text in zip(paths, texts):
         path.write_bytes(text)
-    return " ".join(["mps", order, *(str(path.relative_to(HOME)) for path in paths)])
+    return " ".join(["mps", order, *options, *(str(path.relative_to(HOME)) for path in paths)])
 
 
 def first_difference(wanted, found):

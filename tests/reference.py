@@ -5,7 +5,7 @@ It is written from docs/FORMATS.md and docs/DEFINITIONS.md and from nothing else
 them line by line. A history is a list of steps, and every answer comes from replaying it. Protocols and their local
 types are read by tools/protocols.py, which is written in the same way.
 
-reference.py check FILE | run FILE SCRIPT | same FILE SCRIPT SCRIPT
+reference.py check FILE | run FILE SCRIPT | same FILE SCRIPT SCRIPT, each with --merging plain|full or without
 """
 import contextlib
 import functools
@@ -329,19 +329,19 @@ class Outcome(NamedTuple):
     status: int
 
 
-def check(protocol):
-    """`check` of a protocol's text."""
+def check(protocol, full=False):
+    """`check` of a protocol's text, under full or plain merging."""
     try:
-        types = load(protocol)
+        types = load(protocol, full)
     except Fault as fault:
         return Outcome(b"", fault.line, fault.status)
     return Outcome("".join(f"{role} : {spelled(node)}\n" for role, node in types.items()).encode(), "", 0)
 
 
-def run(protocol, script, kind=Room):
+def run(protocol, script, kind=Room, full=False):
     """`run` of a script under a protocol, in a room of that kind."""
     try:
-        room = kind(load(protocol))
+        room = kind(load(protocol, full))
     except Fault as fault:
         return Outcome(b"", fault.line, fault.status)
     return Outcome("".join(f"{answer(room, line)}\n" for line in lines_of(script)).encode(), "", 0)
@@ -355,9 +355,9 @@ class Deeds(NamedTuple):
     lines: int
 
 
-def deeds(protocol, script, kind):
+def deeds(protocol, script, kind, full):
     """The deeds of a script under a protocol."""
-    room = kind(load(protocol))
+    room = kind(load(protocol, full))
     answers = [answer(room, line) for line in lines_of(script)]
     view = room.view()
     done = {role: [(step.act, taken) for step, taken in past] for role, past in view.past.items()}
@@ -365,10 +365,10 @@ def deeds(protocol, script, kind):
     return Deeds((done, view.store, view.queues), refused, len(answers))
 
 
-def same(protocol, first, second, kind=Room):
+def same(protocol, first, second, kind=Room, full=False):
     """`same` of two scripts under a protocol."""
     try:
-        found = [deeds(protocol, script, kind) for script in (first, second)]
+        found = [deeds(protocol, script, kind, full) for script in (first, second)]
     except Fault as fault:
         return Outcome(b"", fault.line, fault.status)
     told = [f"{which} script: {one.refused} of {one.lines} lines refused" for which, one in zip(("first", "second"), found)]
@@ -376,13 +376,13 @@ def same(protocol, first, second, kind=Room):
     return Outcome(b"same\n", told, 0) if found[0].view == found[1].view else Outcome(b"different\n", told, 1)
 
 
-def outcome_of(order, protocol, *scripts):
+def outcome_of(order, protocol, *scripts, full=False):
     """What an order over files comes to: the protocol is read and checked before a script is opened, and all scripts are
     opened before one is read. `-` is what the standard input has left."""
     try:
         with contextlib.ExitStack() as files:
             text = files.enter_context(open(protocol, "rb")).read()
-            load(text)
+            load(text, full)
             given = sys.stdin and sys.stdin.buffer
             opened = [given if script == "-" else files.enter_context(open(script, "rb")) for script in scripts]
             if None in opened:  # a standard input that was closed before this began
@@ -392,14 +392,19 @@ def outcome_of(order, protocol, *scripts):
         return Outcome(b"", fault.line, fault.status)
     except OSError as error:  # which has the name of a file that can't be opened
         return Outcome(b"", "refused read", 4) if error.filename is None else Outcome(b"", f"refused file {error.filename}", 2)
-    return {"check": check, "run": run, "same": same}[order](text, *texts)
+    return {"check": check, "run": run, "same": same}[order](text, *texts, full=full)
 
 
 def main():
-    if [len(sys.argv), sys.argv[1:2]] not in ([3, ["check"]], [4, ["run"]], [5, ["same"]]):
-        print("usage: reference.py check FILE | run FILE SCRIPT | same FILE SCRIPT SCRIPT", file=sys.stderr)
+    words, merging = sys.argv[1:], "plain"
+    if "--merging" in words:
+        at = words.index("--merging")
+        merging, words = "".join(words[at + 1:at + 2]), words[:at] + words[at + 2:]
+    if [len(words), words[:1]] not in ([2, ["check"]], [3, ["run"]], [4, ["same"]]) or merging not in ("plain", "full"):
+        print("usage: reference.py check FILE | run FILE SCRIPT | same FILE SCRIPT SCRIPT, with --merging plain|full or without",
+              file=sys.stderr)
         sys.exit(2)
-    found = outcome_of(*sys.argv[1:])
+    found = outcome_of(*words, full=merging == "full")
     sys.stdout.buffer.write(found.out)
     if found.fault and found.status > 1:
         print(found.fault, file=sys.stderr)

@@ -189,12 +189,17 @@ def check(goal, sources):
     return prove()[goal]
 
 
-def give_library(folder):
-    """Copies the library into a folder, which is built where it is missing; what it is, and where it then stands."""
+def made_library():
+    """The kind and the place of the library, which is built where it is missing, and its sources."""
     sources = digest(LIBRARY.crates())
     if not built(sources, LIBRARY.name):
         check(LIBRARY, sources)
-    kind, made = built(sources, LIBRARY.name)
+    return *built(sources, LIBRARY.name), sources
+
+
+def give_library(folder):
+    """Copies the library into a folder; what it is, and where it then stands."""
+    kind, made, sources = made_library()
     try:
         places = library.put(made, folder)
     except OSError as error:

@@ -78,7 +78,7 @@ class TestFile:
     def __init__(self, path):
         self.name = "/".join(part for part in path.relative_to(ROOT / "crates").with_suffix("").parts if part != "src")
         self.path = path.relative_to(ROOT)
-        text = re.sub(r"//[^\n]*|'(?:[^'\\]|\\.)'|\"(?:[^\"\\]|\\.)*\"", "", path.read_text(encoding="utf-8"))
+        text = re.sub(r"//[^\n]*|'(?:[^'\\]|\\[\s\S])'|\"(?:[^\"\\]|\\[\s\S])*\"", "", path.read_text(encoding="utf-8"))
         self.crates = set(re.findall(r"\bmps_\w+", text))
         self.named = {(used[1], word) for used in re.finditer(r"\buse (mps_\w+)::([^;]*);", text)
                       for word in re.findall(r"\w+|\*", used[2])}

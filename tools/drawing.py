@@ -54,9 +54,14 @@ def shown_form():
 def read_step(number, role, act, *rest):
     """A row of the history as a step, with what it gives or takes as a queue shows that."""
     peer = None if act in ("mark", "commit") else rest[0]
-    name = {"recv": rest[1:2], "mark": rest}.get(act) or [None]
+    name = rest[1] if act == "recv" else rest[0] if act == "mark" else None
     what = {"label": rest[1]} if act in ("choose", "pick") else rest[-1] if peer else None
-    return Step(number, role, act, peer, name[0], what)
+    return Step(number, role, act, peer, name, what)
+
+
+def is_same(one, other):
+    """Whether two messages are the same: for python 1 is True."""
+    return type(one) is type(other) and one == other
 
 
 def replay(names, steps):
@@ -69,7 +74,7 @@ def replay(names, steps):
         if gives:
             queues[pair].append(step)
         elif step.peer:
-            waits = queues[pair] and json.dumps(queues[pair][0].what) == json.dumps(step.what)
+            waits = queues[pair] and is_same(queues[pair][0].what, step.what)
             needs(waits, f"step {step.number} takes what doesn't wait from {step.peer}")
             takes[step.number] = queues[pair].pop(0).number
     return takes, {pair: queue for pair, queue in queues.items() if queue}

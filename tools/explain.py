@@ -6,22 +6,25 @@ of text with a caret below the place, and says what is expected there. tools/pro
 import os
 import re
 
-from protocols import RESERVED, examined, is_name, is_variable, spelled
+from protocols import RESERVED, Local, Rec, examined, is_name, is_variable, spelled
 
 BLANKS = b" \t\r\n"
 WIDE = 100  # characters of a line of text that are shown at most
 MOST = 65_536  # bytes of a protocol's text
 LONG = 160  # characters of a local type that are shown at most
 KINDS = {"NAME": "a name", "VAR": "a variable"}
+NEAR = 4  # labels that are shown at most of those after which two types part
 ADVICE = "docs/DESIGNING.md of Cizhmolat shows what to do about it"
+FULLY = "with --merging full this protocol is accepted"
 MARK = b"\xef\xbb\xbf"  # which some editors put before a text in UTF-8
 NO_MARK = "a byte order mark stands here, which editors don't show: save the text as UTF-8 without one"
 SPELLING = "names are of small letters, digits and `_`, variables of capital ones, with a letter first"
 
 
-def told_of(path, line, most=None):
-    """What there is to say of the protocol in that file, which the program refused with that line, of so many faults at most:
-    nothing where the file can't be read again, as a pipe can't, or doesn't have that fault any more."""
+def told_of(path, line, most=None, full=False):
+    """What there is to say of the protocol in that file, which the program refused with that line under full or plain merging,
+    of so many faults at most: nothing where the file can't be read again, as a pipe can't, or doesn't have that fault any
+    more."""
     if not os.path.isfile(path):
         return b""
     try:
@@ -29,16 +32,18 @@ def told_of(path, line, most=None):
             text = file.read(MOST + 1)
     except OSError:
         return b""
-    faults = faults_of(text)
+    faults = faults_of(text, full)
     if not faults or line != f"{faults[0].line}\n".encode():
         return b""
     told = "".join(explanation(path, text, fault) for fault in faults[:most])
-    return (told + f"{ADVICE}\n" * (faults[0].kind == "projection")).encode(errors="surrogateescape")
+    if faults[0].kind == "projection":
+        told += f"{FULLY}\n" * (not full and not faults_of(text, True)) + f"{ADVICE}\n"
+    return told.encode(errors="surrogateescape")
 
 
-def faults_of(text):
-    """The faults of a protocol's text, the first first."""
-    return examined(text)[1]
+def faults_of(text, full=False):
+    """The faults of a protocol's text under full or plain merging, the first first."""
+    return examined(text, full)[1]
 
 
 def explanation(path, text, fault):
@@ -110,8 +115,8 @@ def not_expected(text, fault):
 def unmerged(_, fault):
     """Of a role that does different things in the branches of a choice that others make."""
     role, choice = fault.facts["role"], fault.facts["choice"]
-    return (f"`{role}` takes no part in this choice between `{choice.sender}` and `{choice.receiver}`, and doesn't do the "
-            "same in all branches")
+    what = "can't be ready for all branches" if fault.facts["full"] else "doesn't do the same in all branches"
+    return f"`{role}` takes no part in this choice between `{choice.sender}` and `{choice.receiver}`, and {what}"
 
 
 def differing(fault):
@@ -124,7 +129,34 @@ def differing(fault):
     for label, words in zip((first[0], other[0]), texts):
         shown = " ".join([".."] * bool(begin) + words[begin:])
         label = f"`{label}`".ljust(wide)
-        yield f"what {role} does in {label} : {shown if len(shown) <= LONG else shown[:LONG - 3] + ' ..'}"
+        yield f"what {role} does in {label} : {cut(shown)}"
+    if fault.facts["full"]:
+        yield parting(role, fault.facts["apart"])
+
+
+def cut(text):
+    """The beginning of a text, as much as is shown."""
+    return text if len(text) <= LONG else text[:LONG - 3] + " .."
+
+
+def parting(role, apart):
+    """After which labels the role would have to know the branch, and what it would come to there."""
+    labels = [".."] * (len(apart.labels) > NEAR) + [f"`{label}`" for label in apart.labels[-NEAR:]]
+    after = f"after {', '.join(labels)}, " if labels else ""
+    one, other = begun(apart.one), begun(apart.other)
+    if isinstance(apart.one, Rec) and isinstance(apart.other, Rec):
+        return f"{after}{role} comes to `{one}` or to `{other}`, and loops of two names aren't merged"
+    if one.startswith("pick ") and one.split(" ")[:2] == other.split(" ")[:2]:
+        return f"{after}{role} would pick from more than 16 labels, and a choice has 16 at most"
+    return f"{after}{role} would have to know the branch: it comes to `{one}` or to `{other}`"
+
+
+def begun(node):
+    """How a local type begins."""
+    text = spelled(node)
+    if isinstance(node, Local) and node.kind in ("choose", "pick"):
+        return cut(f"{node.kind} {node.peer} {{ {' , '.join(label for label, _ in node.branches)} }}")
+    return text.split(" . ")[0]
 
 
 REASONS = {

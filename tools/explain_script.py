@@ -177,12 +177,12 @@ def summary(counts):
     return told + f", {unread} of them unreadable" * bool(unread) + ".\n"
 
 
-def explain(program, protocol, script, name):
-    """Explains the refused lines of a script, which is called by that name, on a session of a protocol without a fault. Gives
-    1 where there are any, else 0; or the program's status, where that isn't 0."""
-    checked = subprocess.run([program, "check", "--", protocol], stdout=subprocess.PIPE, check=True)
+def explain(program, options, protocol, script, name):
+    """Explains the refused lines of a script, which is called by that name, on a session of a protocol that the program accepts
+    with these options. Gives 1 where there are any, else 0; or the program's status, where that isn't 0."""
+    checked = subprocess.run([program, "check", *options, "--", protocol], stdout=subprocess.PIPE, check=True)
     session, counts = Followed(read_types(checked.stdout.decode())), collections.Counter()
-    words = [program, "-v", "run", "--", protocol, script]
+    words = [program, "-v", "run", *options, "--", protocol, script]
     with tempfile.TemporaryFile() as said, subprocess.Popen(words, stdout=subprocess.PIPE, stderr=said) as ran:
         answers = (answer.rstrip(b"\n") for answer in ran.stdout)
         told = explained(session, answers, lines_of(script), counts)

@@ -28,31 +28,25 @@ def bytes_of(path):
         raise Unread(f"{path}: {error.strerror}") from None
 
 
-def answers(program, protocol, lines):
-    """What the program answers to these lines, on a session of the protocol in that file."""
+def answers(program, options, protocol, lines):
+    """What the program answers with these options to these lines, on a session of the protocol in that file."""
     with tempfile.NamedTemporaryFile(prefix="journal-") as script:
         script.write(b"".join(line + b"\n" for line in lines))
         script.flush()
-        ran = subprocess.run([program, "run", "--", protocol, script.name], stdin=subprocess.DEVNULL, stdout=subprocess.PIPE,
+        ran = subprocess.run([program, "run", *options, "--", protocol, script.name], stdin=subprocess.DEVNULL, stdout=subprocess.PIPE,
                              stderr=subprocess.PIPE, check=False)
     if ran.returncode != 0:
         raise Unread(f"{protocol} can't be used: {ran.stderr.decode(errors='replace').strip()}")
-    return ran.stdout.split(b"\n")[:-1]
+    return ran.stdout.decode().split("\n")[:-1]
 
 
 class Journal:
-    """A session's file: its lines as a script's, the newest number of each role that gave one, and the first line that is
-    wrong, with why."""
+    """What a session's file has, in a folder with that text as `protocol`: its lines as a script's, the newest number of each
+    role that gave one, and the first line that is wrong, with why."""
 
-    def __init__(self, path):
-        self.folder, name = os.path.split(path)
-        match = NAME.fullmatch(name)
-        if not match:
-            raise Unread(f"{path}: the name of a session's file is K.journal, where K is the session's number")
-        self.session, self.protocol = int(match[1]), os.path.join(self.folder, "protocol")
-        text = bytes_of(self.protocol)
-        data = bytes_of(path)
-        self.found = journals.read(data, journals.first_seal(text[:-1] if text.endswith(b"\n") else text, self.session))
+    def __init__(self, session, protocol, data):
+        self.session = session
+        self.found = journals.read(data, journals.first_seal(protocol[:-1] if protocol.endswith(b"\n") else protocol, session))
         self.rest = data[self.found.size:] if self.found.fault is None else b""
         self.script, self.newest, self.fault = [], {}, None
         for at, line in zip(self.found.places, self.found.lines):
@@ -75,12 +69,13 @@ class Journal:
         self.script.append(line)
         return True
 
-    def run(self, program):
-        """Looks whether each line is accepted, and whether what stands after the last may be cut off."""
-        for at, answer in enumerate(answers(program, self.protocol, self.script)):
-            if not answer.startswith((b"done ", b"undone")):
+    def judge(self, answers):
+        """Looks whether each line is accepted, by the answers to the script, and whether what stands after the last may be cut
+        off."""
+        for at, answer in enumerate(answers):
+            if not answer.startswith(("done ", "undone")):
                 line = self.script[at].decode(errors="replace")
-                self.fault = (self.found.places[at], f"`{line}` is answered `{answer[:80].decode()}`")
+                self.fault = (self.found.places[at], f"`{line}` is answered `{answer[:80]}`")
                 del self.script[at:]
                 return
         if self.fault is None and self.rest and not self.is_torn():
@@ -100,6 +95,16 @@ class Journal:
             yield f"line {self.fault[0]}: {self.fault[1]}"
         elif self.rest:
             yield f"after the last line stand {len(self.rest)} bytes of one that wasn't answered: the next start cuts them off"
+
+
+def read_file(path):
+    """What the file of a session has, and the file beside it with the protocol."""
+    folder, name = os.path.split(path)
+    match = NAME.fullmatch(name)
+    if not match:
+        raise Unread(f"{path}: the name of a session's file is K.journal, where K is the session's number")
+    protocol = os.path.join(folder, "protocol")
+    return Journal(int(match[1]), bytes_of(protocol), bytes_of(path)), protocol
 
 
 def own(path, owner):
@@ -143,11 +148,12 @@ def remove(folder, session):
     return 0
 
 
-def tell(program, path, as_script):
-    """Writes what the file has, or its lines as a script. The exit status: 3 where a line is wrong."""
+def tell(program, options, path, as_script):
+    """Writes what the file has, or its lines as a script, by the program with these options. The exit status: 3 where a line is
+    wrong."""
     try:
-        journal = Journal(path)
-        journal.run(program)
+        journal, protocol = read_file(path)
+        journal.judge(answers(program, options, protocol, journal.script))
     except Unread as error:
         output.tell(f"{error}\n".encode())
         return 2

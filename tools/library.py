@@ -89,12 +89,13 @@ def version():
         return re.search('(?m)^version = "(.*)"$', file.read())[1]
 
 
-def package(folder):
-    """What pkg-config reads of the library in that folder."""
+def package(folder, library="${prefix}", header="${prefix}"):
+    """What pkg-config reads of the library in that folder, or in these below it."""
     with open(os.path.join(FOR_C, f"{PACKAGE}.in"), encoding="utf-8") as file:
         text = file.read()
     # where a `$` isn't doubled a variable follows it
-    return text.replace("@PREFIX@", os.path.abspath(folder).replace("$", "$$")).replace("@VERSION@", version())
+    text = text.replace("@PREFIX@", os.path.abspath(folder).replace("$", "$$")).replace("@VERSION@", version())
+    return text.replace("@LIBRARY@", library).replace("@HEADER@", header)
 
 
 def put(made, folder):

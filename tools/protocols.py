@@ -249,33 +249,91 @@ class Local:
     branches: tuple
 
 
-class Unmerged(Exception):
-    """This choice has branches that can't be merged for the role: the first, and another one."""
+class Apart(Exception):
+    """Two types that can't be merged: the labels after which they part, and the two types there."""
 
-    def __init__(self, choice, first, other):
+    def __init__(self, labels, one, other):
         super().__init__()
-        self.choice, self.first, self.other = choice, first, other
+        self.labels, self.one, self.other = labels, one, other
 
 
-def projection(role, node):
-    """What a role does in a global type."""
+class Unmerged(Exception):
+    """This choice has branches that can't be merged for the role: the first that another one can't be merged with, that one,
+    and where the two part."""
+
+    def __init__(self, choice, first, other, apart):
+        super().__init__()
+        self.choice, self.first, self.other, self.apart = choice, first, other, apart
+
+
+def merged(one, other, full):
+    """The type that stands for both. Plainly they have to be the same. Under full merging picks from one peer have the labels
+    of both, the first's in front; all else begins alike, and what follows is merged."""
+    if full and isinstance(one, Rec) and isinstance(other, Rec) and one.name == other.name:
+        return Rec(one.name, merged(one.body, other.body, full))
+    if full and isinstance(one, Local) and isinstance(other, Local) and (one.kind, one.peer) == (other.kind, other.peer):
+        return Local(one.kind, one.peer, merged_branches(one, other))
+    if one != other:
+        raise Apart((), one, other)
+    return one
+
+
+def merged_branches(one, other):
+    """The branches of the type that stands for two of one kind and peer, under full merging."""
+    ones, others = dict(one.branches), dict(other.branches)
+    words = [*ones, *(word for word in others if word not in ones)]
+    if one.kind != "pick" and list(ones) != list(others) or len(words) > 16:
+        raise Apart((), one, other)
+    return tuple((word, followed(one, word, ones, others)) for word in words)
+
+
+def followed(node, word, ones, others):
+    """What follows the label, or the sort, of that type: of two lists of branches that both have it, what stands for both."""
+    if word not in ones or word not in others:
+        return ones[word] if word in ones else others[word]
+    try:
+        return merged(ones[word], others[word], True)
+    except Apart as found:
+        label = (word,) if node.kind in ("choose", "pick") else ()
+        raise Apart((*label, *found.labels), found.one, found.other) from None
+
+
+def projection(role, node, full=False):
+    """What a role does in a global type, under full or plain merging."""
     if isinstance(node, (End, Var)):
         return node
     if isinstance(node, Rec):
         is_idle = all(role not in parties(it) for it in preorder(node)) and not leads_out(node, set())
-        return End() if is_idle else Rec(node.name, projection(role, node.body))
+        return End() if is_idle else Rec(node.name, projection(role, node.body, full))
     if isinstance(node, Message):
-        then = projection(role, node.then)
+        then = projection(role, node.then, full)
         kind, peer = part(role, node, "send", "recv")
         return Local(kind, peer, ((node.sort, then),)) if kind else then
-    branches = tuple((label, projection(role, below)) for label, below in node.branches)
+    branches = tuple((label, projection(role, below, full)) for label, below in node.branches)
     kind, peer = part(role, node, "choose", "pick")
-    if kind:
-        return Local(kind, peer, branches)
-    other = next((branch for branch in branches if branch[1] != branches[0][1]), None)
-    if other:
-        raise Unmerged(node, branches[0], other)
-    return branches[0][1]
+    return Local(kind, peer, branches) if kind else one_for_all(node, branches, full)
+
+
+def one_for_all(choice, branches, full):
+    """The type of a role that isn't told of a choice: its branches merged from the left."""
+    found = branches[0][1]
+    for place, branch in enumerate(branches[1:], 1):
+        try:
+            found = merged(found, branch[1], full)
+        except Apart as apart:
+            raise unmerged(choice, branches[:place], branch, full, apart) from None
+    return found
+
+
+def unmerged(choice, earlier, other, full, apart):
+    """That this branch can't be merged with those before it: with the first of them with which it can't be by itself, or with
+    all of them, as they have too many labels together."""
+    for first in earlier:
+        try:
+            merged(first[1], other[1], full)
+        except Apart as found:
+            return Unmerged(choice, first, other, found)
+    return Unmerged(choice, earlier[0], other, apart)
 
 
 def preorder(node):
@@ -315,18 +373,18 @@ def spelled(node):
     return f"{node.kind} {node.peer} {{ {branches} }}"
 
 
-def projected(role, body):
+def projected(role, body, full=False):
     """A role's local type, or the fault of a role that has none: its first choice with branches that can't be merged."""
     try:
-        return projection(role, body)
+        return projection(role, body, full)
     except Unmerged as found:
         choices = [node for node in preorder(body) if isinstance(node, Choice)]
         place = next(place for place, choice in enumerate(choices) if choice is found.choice)
-        return Fault(f"refused projection {role} {place}", "projection", found.choice.sender.at,
-                     role=role, choice=found.choice, branches=(found.first, found.other))
+        return Fault(f"refused projection {role} {place}", "projection", found.choice.sender.at, role=role,
+                     choice=found.choice, branches=(found.first, found.other), apart=found.apart, full=full)
 
 
-def examined(protocol):
+def examined(protocol, full=False):
     """Each role's local type, in the order of the roles, and the faults of the protocol, the first first: that of its text, or
     those of its nodes, or of its roles without a local type. Where there are faults, no types are of use."""
     try:
@@ -334,13 +392,13 @@ def examined(protocol):
     except Fault as fault:
         return {}, [fault]
     faults = protocol_faults(roles, body)
-    types = {} if faults else {role: projected(role, body) for role in roles}
+    types = {} if faults else {role: projected(role, body, full) for role in roles}
     return types, faults or [it for it in types.values() if isinstance(it, Fault)]
 
 
-def load(protocol):
+def load(protocol, full=False):
     """Each role's local type, in the order of the roles, or the first fault of the protocol."""
-    types, faults = examined(protocol)
+    types, faults = examined(protocol, full)
     if faults:
         raise faults[0]
     return types

@@ -7,6 +7,7 @@ import time
 
 HOME = os.path.dirname(os.path.dirname(os.path.realpath(__file__)))
 OUT = os.path.join(HOME, "out")
+INSTALLED = os.path.join(HOME, "installed")  # what a package tells of what it put here
 SETTLED = 3  # seconds after which a file that is changed again has another time, on any file system
 
 
@@ -40,8 +41,18 @@ def place(kind, sources, name="mps_tool"):
     return os.path.join(OUT, kind, sources, name)
 
 
+def installed():
+    """The kind and the sources of the program that a package put here, and the folder of the library; or nothing."""
+    with contextlib.suppress(FileNotFoundError), open(INSTALLED, encoding="ascii") as file:
+        kind, sources, folder = file.read().split()
+        return kind, sources, os.path.join(HOME, folder)
+    return None
+
+
 def built(sources, name="mps_tool"):
     """The kind and the place of the program that runs, the proved one before the checked one; or nothing."""
+    if installed():
+        return installed()[0], os.path.join(HOME, "mps_tool")
     places = ((kind, place(kind, sources, name)) for kind in ("proved", "checked"))
     return next((found for found in places if os.path.exists(found[1])), None)
 

@@ -192,12 +192,17 @@ def digest(text):
     return "'sha256-" + base64.b64encode(hashlib.sha256(text.encode()).digest()).decode() + "'"
 
 
+def styled(digits):
+    """The style of a page whose numbers have so many digits."""
+    values = (f":root {{ --ink: {INK}; --arrow: {ARROW}; --shade: {SHADE}; --paper: {PAPER}; --letter: {LETTER}px; "
+              f"--digits: {digits}; }}\n")
+    return values + part("page.css")
+
+
 def page(story, protocol, script):
     """The page of the story of a script under a protocol, by their names."""
     code, end = part("page.js"), story.begin + len(story.lines)
-    values = (f":root {{ --ink: {INK}; --arrow: {ARROW}; --shade: {SHADE}; --paper: {PAPER}; --letter: {LETTER}px; "
-              f"--digits: {len(str(end))}; }}\n")
-    style = values + part("page.css")
+    style = styled(len(str(end)))
     allowed = f"style-src {digest(style)}; script-src {digest(code)}"
     return string.Template(part("page.html")).substitute(
         policy=f"default-src 'none'; {allowed}; base-uri 'none'; form-action 'none'", title=f"{escape(script)}, line by line", protocol=escape(protocol), roles_count=len(story.types), count=story.whole,

@@ -111,13 +111,14 @@ class Session:
 
 # --- The run ---------------------------------------------------------------------------------------------------------
 
-def checked(protocol):
-    """The local types of a protocol, or why there are none. Where no program is built yet, ./mps builds it and says so."""
+def checked(options, protocol):
+    """The local types of a protocol with these options, or why there are none. Where no program is built yet, ./mps builds it and
+    says so."""
     begun = subprocess.run([MPS, "--version"], stdin=subprocess.DEVNULL, stdout=subprocess.DEVNULL, check=False)
     needs(begun.returncode == 0, "./mps has no program to run")
-    found = subprocess.run([MPS, "check", "--", protocol], stdin=subprocess.DEVNULL, capture_output=True, check=False)
+    found = subprocess.run([MPS, "check", *options, "--", protocol], stdin=subprocess.DEVNULL, capture_output=True, check=False)
     if found.returncode:
-        told = subprocess.run([MPS, "explain", protocol], stdin=subprocess.DEVNULL, capture_output=True, check=False)
+        told = subprocess.run([MPS, "explain", *options, protocol], stdin=subprocess.DEVNULL, capture_output=True, check=False)
         reason = (told.stdout or told.stderr or found.stderr).decode(errors="replace").rstrip()
         raise Unshown(f"{protocol} can't be used\n{reason}")
     return read_types(found.stdout.decode())
@@ -134,14 +135,14 @@ def lines_of(script):
 
 
 @contextlib.contextmanager
-def answers_to(protocol, lines, begin, role):
-    """The answers to these lines, from `begin` on with what a line `ROLE show` answers before and after each."""
+def answers_to(options, protocol, lines, begin, role):
+    """The answers to these lines with these options, from `begin` on with what `ROLE show` answers before and after each."""
     show = f"{role} show".encode()
     asked = [*lines[:begin], show, *(it for line in lines[begin:] for it in (line, show))]
     with tempfile.NamedTemporaryFile(prefix="story-") as file:
         file.write(b"".join(line + b"\n" for line in asked))
         file.flush()
-        words = [MPS, "run", "--", protocol, file.name]
+        words = [MPS, "run", *options, "--", protocol, file.name]
         with subprocess.Popen(words, stdin=subprocess.DEVNULL, stdout=subprocess.PIPE) as run:
             yield (line.rstrip(b"\n") for line in run.stdout)
 
@@ -149,13 +150,14 @@ def answers_to(protocol, lines, begin, role):
 class Story:
     """The lines of a script from one of them on, `most` of them at most, with the session after each."""
 
-    def __init__(self, protocol, script, begin, most):
-        self.types, lines = checked(protocol), lines_of(script)
+    def __init__(self, options, protocol, script, begin, most):
+        self.types, lines = checked(options, protocol), lines_of(script)
         self.whole = len(lines)
         self.begin = max(0, self.whole - most) if begin is None else min(begin - 1, self.whole)
         lines = lines[:self.begin + most]
         self.session, self.lines, self.states = Session(self.types), [], []
-        with answers_to(protocol, [line for _, line in lines], self.begin, next(iter(self.types))) as answers:
+        role = next(iter(self.types))
+        with answers_to(options, protocol, [line for _, line in lines], self.begin, role) as answers:
             for number, (_, line) in enumerate(lines[:self.begin], 1):
                 self.skip(number, line, next(answers, b""))
             self.session.read(next(answers, b""), self.begin, None)

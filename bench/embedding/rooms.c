@@ -3,8 +3,8 @@
    lines    nanoseconds of an accepted line, of a refused one, and of an accepted one by mps_say
    memory   bytes of an idle room, and nanoseconds to open and close it, of 10,000 that are open at once; bytes of a room with
             one entry
-   stack    bytes of the stack that opening and closing a room of the deepest protocol takes; with a path behind it, of one that
-            the file there keeps, with MPS_SYNC */
+   stack    bytes of the stack that opening and closing rooms of the deepest protocols takes; with a path behind it, of ones that
+            files keep, that one, with MPS_SYNC, and for full merging the one of its name and .full */
 #define _GNU_SOURCE
 #include <inttypes.h>
 #include <malloc.h>
@@ -99,6 +99,35 @@ static void memory(void) {
     printf("%.0f\n%zu\n", (opened - began + now() - closing) / ROOMS, with_entry);
 }
 
+/* Opens a room by full merging of a protocol of 255 nodes, of which two branches are merged for c. In each choice the first one has
+ * four labels more, and the merging of each is on the stack while what follows is merged; with other numbers of them it takes less. */
+static void merge_deepest(void) {
+    enum { DEEP = 42 };
+    static char first[DEEP * 64], second[DEEP * 20], text[sizeof first + sizeof second + 100];
+    uint32_t fault;
+    uint64_t place;
+    for (int level = 0; level < DEEP; level += 1) {
+        strcat(first, "a -> c { h : end , i : end , j : end , k : end , m : ");
+        strcat(second, "a -> c { m : ");
+    }
+    strcat(first, "end");
+    strcat(second, "end");
+    for (int level = 0; level < DEEP; level += 1) {
+        strcat(first, " }");
+        strcat(second, " }");
+    }
+    snprintf(text, sizeof text, "roles a b c ; a -> b { l : %s , m : %s }", first, second);
+    mps_room room = {NULL};
+    if (file == NULL) {
+        must(mps_open_string_full(text, &room, &fault, &place));
+    } else {
+        static char path[4096];
+        must(snprintf(path, sizeof path, "%s.full", file) < (int)sizeof path);
+        must(mps_open_file_string(text, path, 1, MPS_FULL_MERGING, &room, &fault, &place));
+    }
+    mps_close(&room);
+}
+
 /* Opens a room of a protocol of 64 levels and 256 nodes. In each choice the deep branch is the last: while it is read, those
  * before it are on the stack too, so no protocol takes more of it. */
 static void *deepest(void *none) {
@@ -113,6 +142,7 @@ static void *deepest(void *none) {
     mps_room room = {NULL};
     open_room(&room, text);
     mps_close(&room);
+    merge_deepest();
     return none;
 }
 

@@ -36,6 +36,10 @@ typedef struct mps_room {
  * and else 0, and `room` is as it was. */
 bool mps_open(const uint8_t *text, size_t length, mps_room *room, uint32_t *fault, uint64_t *place);
 
+/* The same by full merging: a role that takes no part in a choice may be told of the branch by a label of its own, where by the
+ * plain merging of mps_open it has to do the same in all branches. Where both give types, they give the same ones. */
+bool mps_open_full(const uint8_t *text, size_t length, mps_room *room, uint32_t *fault, uint64_t *place);
+
 enum {
     MPS_NO_MEMORY = 1,
     MPS_TEXT = 16,        /* 16 to 21: a fault of the text */
@@ -50,9 +54,9 @@ enum {
 
 /* The words of a choice of the protocol that the text spells: who chooses, who is told, and the labels of its branches, such
  * as `a b go stop`. Choices are counted from 0 in the order in which they begin in the text. Of MPS_PROJECTION `place` is such
- * a number: the role takes no part in that choice, and doesn't do the same in all branches. Writes of the words what fits,
- * without a NUL, and gives the length of the whole; 0 where the text can't be read (16 to 21), or has not so many choices;
- * SIZE_MAX where there was no memory, and nothing was written. */
+ * a number: the role takes no part in that choice, and doesn't do the same in all branches, or, by full merging, has no single
+ * type that stands for all of them. Writes of the words what fits, without a NUL, and gives the length of the whole; 0 where
+ * the text can't be read (16 to 21), or has not so many choices; SIZE_MAX where there was no memory, and nothing was written. */
 size_t mps_choice(const uint8_t *text, size_t length, uint64_t number, uint8_t *out, size_t capacity);
 
 /* Opens a room that a file keeps: the room is as the file at the path leaves it, and each command that is accepted from then
@@ -65,12 +69,15 @@ size_t mps_choice(const uint8_t *text, size_t length, uint64_t number, uint8_t *
  * one command more than the file has: close it, and open it again. Where it was the disk that didn't store, the file stays
  * locked until the process ends, since the system may show then what the disk doesn't have.
  *
- * The folder has to be the caller's alone, and the file no link. Sessions are 1 to 2^63. */
+ * The folder has to be the caller's alone, and the file no link. Sessions are 1 to 2^63. Flags, as below, may be added; one
+ * that isn't known is refused as EINVAL. The file doesn't say by which merging it was written: a text that has types by both
+ * may have it by either. */
 bool mps_open_file(const uint8_t *text, size_t length, const uint8_t *path, size_t path_length, uint64_t session,
                    uint32_t flags, mps_room *room, uint32_t *fault, uint64_t *place);
 
 enum {
-    MPS_SYNC = 1  /* the disk has stored each accepted command before its answer is told */
+    MPS_SYNC = 1,         /* the disk has stored each accepted command before its answer is told */
+    MPS_FULL_MERGING = 2  /* the text's types are those of mps_open_full */
 };
 
 /* Has the disk store all that was answered so far: for a room without MPS_SYNC, whose answers are safe from a crash of the
@@ -122,6 +129,11 @@ static inline void mps_close(mps_room *room) {
 /* Opens a room by a text that ends with a NUL. */
 static inline bool mps_open_string(const char *text, mps_room *room, uint32_t *fault, uint64_t *place) {
     return mps_open((const uint8_t *)text, strlen(text), room, fault, place);
+}
+
+/* mps_open_full, by a text that ends with a NUL. */
+static inline bool mps_open_string_full(const char *text, mps_room *room, uint32_t *fault, uint64_t *place) {
+    return mps_open_full((const uint8_t *)text, strlen(text), room, fault, place);
 }
 
 /* mps_open_file, by strings. */

@@ -1,8 +1,8 @@
 # SPDX-License-Identifier: MIT OR Apache-2.0
 """backend: how pip makes the wheel of this folder, as PEP 517 has it. It needs nothing but Python, so no net.
 
-In the wheel are cizhmolat_embed.py, cizhmolat.py of clients/python, and libcizhmolat.so, which `./mps library lib` makes at the
-top of the clone: of the folder that the environment's CIZHMOLAT_DIR names, or of that lib."""
+In the wheel are cizhmolat_embed.py, cizhmolat.py and cizhmolat_states.py of clients/python, and libcizhmolat.so, which
+`./mps library lib` makes at the top of the clone: of the folder that the environment's CIZHMOLAT_DIR names, or of that lib."""
 from __future__ import annotations
 
 import base64
@@ -47,14 +47,15 @@ def sources() -> list[Path]:
     folder = Path(os.environ.get("CIZHMOLAT_DIR") or HOME / "lib")
     if not folder.is_absolute():
         sys.exit(f"CIZHMOLAT_DIR is {folder}, and has to be an absolute path")
-    files = [HERE / "cizhmolat_embed.py", HOME / "clients" / "python" / "cizhmolat.py", folder / "libcizhmolat.so"]
-    for file in files[:2]:
+    clients = HOME / "clients" / "python"
+    *modules, library = [HERE / "cizhmolat_embed.py", clients / "cizhmolat.py", clients / "cizhmolat_states.py", folder / "libcizhmolat.so"]
+    for file in modules:
         if not file.is_file():
             sys.exit(f"there is no {file}: install from a clone of the repository of Cizhmolat")
-    if not files[2].is_file():
+    if not library.is_file():
         sys.exit(f"{folder} has no libcizhmolat.so: make it by `./mps library lib` at the top of the clone, or set CIZHMOLAT_DIR "
                  "to the folder that has it")
-    return files
+    return [*modules, library]
 
 
 def digest(part: bytes) -> str:

@@ -16,8 +16,8 @@ for a server goes on here with
     session = Room(protocol)
 
 in place of `from cizhmolat import Role` and `session = 1`. What speaks of the connection (`port`, `host`, `numbers`, `timeout`,
-`patience`) may stand there still, and does nothing: no answer is lost while the process lives. Where TakenBack is raised the
-command wasn't run, a commit neither, since nobody else acts between the news and the command.
+`patience`, `tls`) may stand there still, and does nothing: no answer is lost while the process lives. Where TakenBack is raised
+the command wasn't run, a commit neither, since nobody else acts between the news and the command.
 
 A room with a file is as the file leaves it, and each command that is accepted from then on is in the file before its answer is
 told:
@@ -44,15 +44,18 @@ import re
 import threading
 import time
 from pathlib import Path
-from typing import Any
+from typing import TYPE_CHECKING, Any, cast
 
 import cizhmolat
 from cizhmolat import NOTHING_YET, Error, News, Refused, Value, count, name
 
+if TYPE_CHECKING:
+    import ssl
+
 __all__ = ["BadFile", "BadLine", "BadProtocol", "FileInUse", "NoMemory", "NotStored", "Role", "Room", "UnusableFile"]
 
 NO_MEMORY = ctypes.c_size_t(-1).value
-SYNC = 1
+SYNC, FULL_MERGING = 1, 2
 TEXTS = ("toolong", "word", "unexpected", "toomanynodes", "toodeep", "trailing")
 PROTOCOLS = ("rolecount", "doublerole", "toomanynodes", "toodeep", "unknownrole", "selfmessage", "doublelabel",
              "toomanybranches", "nobranches", "unbound", "shadowed", "unguarded")
@@ -70,14 +73,16 @@ class BadProtocol(Error):
     Of a projection, where there was memory to look for them, and else None and []:
 
     role      the role without a local type
-    sender    who makes the choice in which it doesn't do the same in all branches
+    sender    who makes the choice whose branches it can't tell apart
     receiver  who is told of that
-    labels    the labels of the branches"""
+    labels    the labels of the branches
+
+    `full_merging` is that of the Room, by which a role needn't do the same in all branches."""
 
     def __init__(self, number: int, place: int, role: str | None = None, sender: str | None = None, receiver: str | None = None,
-                 *labels: str) -> None:
+                 *labels: str, full_merging: bool = False) -> None:
         super().__init__(number, place, role, sender, receiver, *labels)  # of which pickle and copy make it again
-        self.number, self.place = number, place
+        self.number, self.place, self.full_merging = number, place, full_merging
         self.role, self.sender, self.receiver, self.labels = role, sender, receiver, list(labels)
         if number < 32:
             self.word = TEXTS[number - 16]
@@ -93,8 +98,9 @@ class BadProtocol(Error):
             return f"protocol {self.word}"
         if self.role is None:
             return f"projection of role number {self.number - PROJECTION}, choice {self.place}"
-        return (f"`{self.role}` takes no part in the choice between `{self.sender}` and `{self.receiver}`, and doesn't do the same in "
-                f"all branches: `{'`, `'.join(self.labels)}`")
+        wrong = "can't be ready for all branches" if self.full_merging else "doesn't do the same in all branches"
+        return (f"`{self.role}` takes no part in the choice between `{self.sender}` and `{self.receiver}`, and {wrong}: "
+                f"`{'`, `'.join(self.labels)}`")
 
 
 class BadFile(Error):
@@ -124,7 +130,7 @@ class UnusableFile(BadFile, OSError):
 
     def __init__(self, path: str, errno: int | None) -> None:
         super().__init__(path, errno)
-        self.errno, self.filename = errno, path
+        self.errno, self.filename = cast(Any, errno), path  # of an OSError it may be None, which not each type checker knows
         self.strerror = os.strerror(errno) if errno else "the system doesn't say why"
 
     def __reduce__(self) -> tuple[type[UnusableFile], tuple[str, int | None]]:  # that of an OSError hands on its filename too
@@ -170,6 +176,7 @@ def library() -> ctypes.CDLL:
     size, text, place = ctypes.c_size_t, ctypes.c_char_p, ctypes.c_void_p
     calls: tuple[tuple[str, Any, list[Any]], ...] = (
         ("mps_open", ctypes.c_bool, [text, size, place, ctypes.POINTER(ctypes.c_uint32), ctypes.POINTER(ctypes.c_uint64)]),
+        ("mps_open_full", ctypes.c_bool, [text, size, place, ctypes.POINTER(ctypes.c_uint32), ctypes.POINTER(ctypes.c_uint64)]),
         ("mps_choice", size, [text, size, ctypes.c_uint64, place, size]),
         ("mps_open_file", ctypes.c_bool, [text, size, text, size, ctypes.c_uint64, ctypes.c_uint32, place,
                                           ctypes.POINTER(ctypes.c_uint32), ctypes.POINTER(ctypes.c_uint64)]),
@@ -202,14 +209,14 @@ def unmerged(text: bytes, role: int, choice: int) -> list[str]:
     return [roles[role], *str(block.raw[:length], "ascii").split()]
 
 
-def room_fault(number: int, place: int, text: bytes, file: Any) -> Error:
+def room_fault(number: int, place: int, text: bytes, file: Any, full_merging: bool) -> Error:
     """Why there is no room of the text, by the number and the place that the library tells."""
     if number == 1:
         return NoMemory("there is no memory for a room")
     if number < PROJECTION:
-        return BadProtocol(number, place)
+        return BadProtocol(number, place, full_merging=full_merging)
     if number < ELSEWHERE:
-        return BadProtocol(number, place, *unmerged(text, number - PROJECTION, place))
+        return BadProtocol(number, place, *unmerged(text, number - PROJECTION, place), full_merging=full_merging)
     path = os.fsdecode(file)
     if number == ELSEWHERE:
         return FileInUse(path)
@@ -224,12 +231,15 @@ class Room:
     session   of which session the file is, whose number goes into its seals: a server has session K in K.journal of its folder
     sync      whether the disk has stored each accepted command before its answer is told. Without it answers are safe from a
               crash of the process as they are told, and from one of the machine only after `sync()`
+    full_merging
+              whether a role that takes no part in a choice may be told of the branch by a label of its own, where else it has
+              to do the same in all branches. The file doesn't say so: a text that gives a room by both may have it by either
 
     It is closed by `close`, at the end of a `with`, or when it is let go of. It can't be called after that. A fork of the process
     can't call a room with a file, and keeps the file locked until it ends, or lets go of the room."""
 
     def __init__(self, text: str | bytes, file: str | bytes | os.PathLike[str] | os.PathLike[bytes] | None = None, *,
-                 session: int = 1, sync: bool = False) -> None:
+                 session: int = 1, sync: bool = False, full_merging: bool = False) -> None:
         text = coded(text)
         fault, place = ctypes.c_uint32(), ctypes.c_uint64()
         self._handle = Handle()
@@ -240,12 +250,13 @@ class Room:
         self._accepted: collections.Counter[str] = collections.Counter()
         self._process = None if file is None else os.getpid()  # to which the file belongs
         if file is None:
-            is_open = LIBRARY.mps_open(text, len(text), self._at, fault, place)
+            opens = LIBRARY.mps_open_full if full_merging else LIBRARY.mps_open
+            is_open = opens(text, len(text), self._at, fault, place)
         else:
-            path, flags = os.fsencode(file), SYNC if sync else 0
+            path, flags = os.fsencode(file), (SYNC if sync else 0) | (FULL_MERGING if full_merging else 0)
             is_open = LIBRARY.mps_open_file(text, len(text), path, len(path), count(session), flags, self._at, fault, place)
         if not is_open:
-            raise room_fault(fault.value, place.value, text, file)
+            raise room_fault(fault.value, place.value, text, file, full_merging)
 
     def __enter__(self) -> Room:
         return self
@@ -397,7 +408,7 @@ class Role(cizhmolat.Role):
     session: Room  # type: ignore[assignment]  # of a server it is a number
 
     def __init__(self, session: Room, role: str, port: int = 0, *, host: str = "", numbers: str | os.PathLike[str] | None = None,
-                 timeout: float = 0, patience: float = 0) -> None:
+                 timeout: float = 0, patience: float = 0, tls: ssl.SSLContext | None = None) -> None:
         self.session, self.role = session, name(role)
         self.resumed = None
         self._heard, self._is_settled, self.timeout = 0, True, timeout  # no command is ever under way

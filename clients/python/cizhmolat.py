@@ -74,6 +74,16 @@ once.
 
 cizhmolat_asyncio.py, which stands beside this file, has a Role for asyncio.
 
+**Through TLS.** With `tls` a Role speaks to a gateway that asks for a certificate, and lets each name join only what a list says:
+
+    context = ssl.create_default_context(cafile="authority.pem")
+    context.load_cert_chain("b.pem")
+    b = Role(session=1, role="b", port=4750, host="localhost", tls=context)
+
+A certificate that is refused, the gateway's or the role's, raises NotTrusted at once. The connection of a join that isn't allowed
+is closed without an answer, as is each while the server isn't there. So such a join is tried again, until patience runs out; then
+Unreachable says that the gateway may not allow it.
+
 A Role is used by one thread and for one call at a time. Only this module's own exceptions and ValueError, for words that no
 line can have, no port, a file of another role and a second call at a time, are raised; a refusal has the class of its name,
 such as NothingQueued, and the session is then as it was.
@@ -91,7 +101,10 @@ import socket
 import time
 import types
 from collections.abc import Awaitable, Callable, Coroutine, Generator, Iterator, Sequence
-from typing import Any, NamedTuple, NoReturn, TypeVar, Union
+from typing import TYPE_CHECKING, Any, NamedTuple, NoReturn, TypeVar, Union
+
+if TYPE_CHECKING:
+    import ssl
 
 Value = Union[bool, int, str]
 Made = TypeVar("Made")
@@ -100,6 +113,7 @@ TEXT = re.compile(r"[ !#-\[\]-~]{0,256}")
 ANSWER = re.compile(r"(?:done|undone|news|joined|refused)\b.*|\{.*\}")  # what any answer looks like
 DONE, UNDONE = r"done (\d+)", r"undone((?: \d+)*)"  # answers to a step forward, and to steps back
 NOTHING_YET = re.compile(r"refused nothingqueued|news \d+")  # what is answered while others have still to act
+CERTIFICATE = re.compile("CERTIFICATE|UNKNOWN_CA|HANDSHAKE_FAILURE")  # in a reason of OpenSSL: one was refused, or is missing
 QUESTIONS = ("news", "show", "stand")  # which change nothing, and have no number
 FULL = 100_000  # entries that a journal has at most
 LONGEST = 2_000_000  # seconds that each system takes as a limit: 23 days
@@ -115,6 +129,11 @@ class Error(Exception):
 class Unreachable(Error):
     """No server was there, or none answered, until patience or a receipt's time ran out. The command may have been run, or
     not. Give it again, and it is run once, also by the next Role with the same file of numbers. Or `settle` finds out."""
+
+
+class NotTrusted(Unreachable):
+    """A certificate was refused, and nothing is tried again: the gateway's, by the `tls` of the role, or the role's, by the
+    gateway."""
 
 
 class NotUnderstood(Error):
@@ -444,14 +463,19 @@ class Connection:
         self.waits = True  # whether lines may wait at the server, as far as is known
 
     @classmethod
-    async def open(cls, address: tuple[str, int], until: float) -> Connection:
-        """A connection to the server there."""
+    async def open(cls, address: tuple[str, int], until: float, tls: ssl.SSLContext | None = None) -> Connection:
+        """A connection to the server there, through TLS where there is a context of it."""
         seconds, fault = until - time.monotonic(), OSError("the host has no address")
         for family, kind, protocol, _, place in socket.getaddrinfo(*address, type=socket.SOCK_STREAM):
             try:
                 with contextlib.ExitStack() as stack:
                     found = cls(stack.enter_context(socket.socket(family, kind, protocol)))
-                    await found._connect(place, time.monotonic() + seconds)
+                    limit = time.monotonic() + seconds
+                    await found._connect(place, limit)
+                    if tls is not None:
+                        wrapped = tls.wrap_socket(found._socket, server_hostname=address[0], do_handshake_on_connect=False)
+                        found = Secured(stack.enter_context(wrapped))
+                        await found._shake_hands(limit)
                     stack.pop_all()
                     return found
             except OSError as error:
@@ -503,13 +527,17 @@ class Connection:
             except BlockingIOError:
                 await self._ready(selectors.EVENT_WRITE, until)
 
+    async def _receive(self, until: float) -> bytes:
+        """The next piece. There has to be time left for each, lest a server that trickles is waited for without end."""
+        await self._ready(selectors.EVENT_READ, until)
+        return self._socket.recv(65536)
+
     async def talk(self, lines: Sequence[str], until: float) -> list[str]:
         """The answers to these lines, which are sent in one write. They have to be there until then."""
         await self._send("".join(f"{line}\n" for line in lines).encode("ascii"), until)
         came, ends = bytearray(), 0
         while ends < len(lines):
-            await self._ready(selectors.EVENT_READ, until)  # for each piece, lest a server that trickles is waited for without end
-            piece = self._socket.recv(65536)
+            piece = await self._receive(until)
             if not piece:
                 raise ConnectionError("the connection broke")
             came += piece
@@ -518,6 +546,56 @@ class Connection:
         if rest or len(answers) > len(lines) or not all(it.isascii() and ANSWER.fullmatch(it) for it in answers):
             raise NotUnderstood(f"{bytes(came[:100])!r}, to {', '.join(lines)}")
         return answers
+
+
+def tls_event(fault: OSError) -> int | None:
+    """The event for which an act over TLS waits that ended so."""
+    import ssl  # here alone, since a program that has no use for it would start later
+    if isinstance(fault, ssl.SSLWantReadError):
+        return selectors.EVENT_READ
+    return selectors.EVENT_WRITE if isinstance(fault, ssl.SSLWantWriteError) else None
+
+
+class Secured(Connection):
+    """A connection through TLS. Whether the socket is ready says little of what can be read or written, since TLS keeps bytes that
+    were read, and sends some of its own. So each act is tried, and says itself what it waits for."""
+    _socket: ssl.SSLSocket
+
+    async def _shake_hands(self, until: float) -> None:
+        await self._act(self._socket.do_handshake, until)
+
+    async def _act(self, act: Callable[[], Made], until: float) -> Made:
+        """What the act comes to, once it can be done."""
+        while left(until) != 0:
+            try:
+                return act()
+            except OSError as fault:
+                if CERTIFICATE.search(getattr(fault, "reason", None) or ""):
+                    raise NotTrusted(f"a certificate was refused, or is missing: {fault}") from fault
+                event = tls_event(fault)
+                if event is None:
+                    raise
+            await self._ready(event, until)
+        raise TimeoutError("the time is over")
+
+    def shut(self) -> None:
+        with contextlib.suppress(OSError):  # below TLS: its own leaves TLS off, and what still comes would be taken for answers
+            socket.socket.shutdown(self._socket, socket.SHUT_RDWR)
+
+    def is_over(self) -> bool:
+        try:
+            self._socket.recv(1)
+        except OSError as fault:
+            return tls_event(fault) is None
+        return True
+
+    async def _send(self, text: bytes, until: float) -> None:
+        rest = memoryview(text)
+        while rest:
+            rest = rest[await self._act(lambda: self._socket.send(rest), until):]
+
+    async def _receive(self, until: float) -> bytes:
+        return await self._act(lambda: self._socket.recv(65536), until)
 
 
 class Numbers:
@@ -572,11 +650,12 @@ class Calls:
     _half: tuple[str, str, News] | None = None  # a command that is being put back, its answer, and the news after it
 
     def __init__(self, session: int, role: str, port: int, *, host: str = "127.0.0.1",
-                 numbers: str | os.PathLike[str] | None = None, timeout: float = 30, patience: float = 10) -> None:
+                 numbers: str | os.PathLike[str] | None = None, timeout: float = 30, patience: float = 10,
+                 tls: ssl.SSLContext | None = None) -> None:
         self.session, self.role = count(session), name(role)
         if not 0 <= port < 2 ** 16:
             raise ValueError(f"no port: {port!r}")
-        self.address, self.timeout, self.patience = (host, port), timeout, patience
+        self.address, self.timeout, self.patience, self.tls = (host, port), timeout, patience, tls
         self._connection: Connection | None = None
         self._numbers = Numbers(numbers, f"{self.session} {self.role}")
         self.resumed: Answered | None = None
@@ -897,9 +976,15 @@ class Calls:
 
     async def _join(self, until: float) -> Connection:
         """A connection that acts for the role, from now on this Role's; whoever calls closes it where it can't join."""
-        self._connection = await Connection.open(self.address, until)
+        self._connection = await Connection.open(self.address, until, self.tls)
         line = f"join {self.session} {self.role}"
-        read(line, (await self._connection.talk([line], until))[0], f"joined {self.session} {self.role}")
+        try:
+            answer = (await self._connection.talk([line], until))[0]
+        except OSError as fault:
+            if self.tls is None or isinstance(fault, TimeoutError):
+                raise
+            raise ConnectionError(f"{line!r} wasn't answered, as where a gateway's list doesn't allow it: {fault}") from fault
+        read(line, answer, f"joined {self.session} {self.role}")
         return self._connection
 
     async def _talk_in_time(self, lines: Sequence[str], limit: float, wait: float) -> list[str]:
@@ -932,6 +1017,8 @@ class Role(Calls):
     timeout          seconds until an answer that hasn't come counts as a broken connection
     patience         seconds for which a server that isn't there or doesn't answer, a role that is taken, and a session that isn't
                      opened now are tried again; with 0 there is one try, for `timeout`
+    tls              a context of `ssl` with the role's certificate, by which it speaks TLS to a gateway, whose own has to be for
+                     `host`
 
     Each time may be math.inf, also that of a receipt: then the waiting has no limit.
 
@@ -941,8 +1028,9 @@ class Role(Calls):
     would be a new one."""
 
     def __init__(self, session: int, role: str, port: int, *, host: str = "127.0.0.1",
-                 numbers: str | os.PathLike[str] | None = None, timeout: float = 30, patience: float = 10) -> None:
-        super().__init__(session, role, port, host=host, numbers=numbers, timeout=timeout, patience=patience)
+                 numbers: str | os.PathLike[str] | None = None, timeout: float = 30, patience: float = 10,
+                 tls: ssl.SSLContext | None = None) -> None:
+        super().__init__(session, role, port, host=host, numbers=numbers, timeout=timeout, patience=patience, tls=tls)
         now(self._start())
 
     def __enter__(self) -> Role:
@@ -1115,8 +1203,9 @@ class Waiting:
             self._stopped.add(it)
             self._run(it, None)
         except BaseException:  # also one of a signal's handler
-            with contextlib.suppress(KeyError, ValueError):
-                self._selector.unregister(it.need.stream)
+            if it.need.stream is not None:
+                with contextlib.suppress(KeyError, ValueError):
+                    self._selector.unregister(it.need.stream)
             call.close()
             self._stopped.discard(it)
             raise

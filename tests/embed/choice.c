@@ -1,7 +1,8 @@
 /* choice FILE CAPACITY NUMBER..: says how the opening of a protocol ends, `open`, or the number of the fault and its place. Then
  * it asks for each of these choices, and prints a line: the length that mps_choice tells, a space, and what it writes into so
  * many bytes. Each choice is asked for with every other capacity up to three bytes more than that length, and with strings:
- * what is written then has to be the front of the whole, and no more. */
+ * what is written then has to be the front of the whole, and no more. By full merging the protocol has to have the same outcome
+ * as a text and as a string. */
 #include <inttypes.h>
 
 #include "texts.h"
@@ -41,6 +42,18 @@ static void compare_strings(uint64_t number, size_t length, size_t capacity) {
     free(block);
 }
 
+/* Opens the protocol by full merging, as a text and as a string. */
+static void compare_full(void) {
+    uint32_t faults[2] = {0, 0};
+    uint64_t places[2] = {0, 0};
+    mps_room rooms[2] = {{NULL}, {NULL}};
+    bool is_open = mps_open_full(protocol.at, protocol.length, &rooms[0], &faults[0], &places[0]);
+    bool is_string_open = mps_open_string_full(string, &rooms[1], &faults[1], &places[1]);
+    if (is_string_open != is_open || faults[0] != faults[1] || places[0] != places[1]) stop("a string has another outcome");
+    mps_close(&rooms[0]);
+    mps_close(&rooms[1]);
+}
+
 int main(int count, char **words) {
     if (count < 3) stop("usage: choice FILE CAPACITY NUMBER..");
     protocol = whole_file(words[1]);
@@ -54,6 +67,7 @@ int main(int count, char **words) {
     if (mps_open(protocol.at, protocol.length, &room, &fault, &place)) puts("open");
     else printf("%" PRIu32 " %" PRIu64 "\n", fault, place);
     mps_close(&room);
+    compare_full();
     for (int at = 3; at < count; at += 1) {
         uint64_t number = strtoull(words[at], NULL, 10);
         size_t length = mps_choice(protocol.at, protocol.length, number, whole, MOST);

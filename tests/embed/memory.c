@@ -1,7 +1,8 @@
-/* memory FILE SCRIPT: runs a script on a room of a protocol again and again, and each time refuses another request for memory,
- * or all from one on until the room tells it. Each line then has the answer with ample memory; or `refused memory`, and it is
- * given again; or no memory for its answer's text, which is asked for again. In the end the entries and the protocol's first
- * choice are those of the run with ample memory, and nothing is left of the room. It prints how often each came.
+/* memory FILE SCRIPT [--full]: runs a script on a room of a protocol again and again, and each time refuses another request for
+ * memory, or all from one on until the room tells it. Each line then has the answer with ample memory; or `refused memory`, and
+ * it is given again; or no memory for its answer's text, which is asked for again. In the end the entries and the protocol's
+ * first choice are those of the run with ample memory, and nothing is left of the room. It prints how often each came. With
+ * --full the room is opened by full merging.
  *
  * It is linked with --wrap for malloc, realloc and free, so that it sees each request of the library. */
 #include <inttypes.h>
@@ -20,6 +21,7 @@ static long requests, first, last = -1, blocks;
 static text wanted[LINES];
 static size_t count, lines;
 static long refused, no_text, not_opened;
+static bool is_full;
 static uint8_t out[MOST];
 
 static bool is_refused(void) {
@@ -93,6 +95,11 @@ static size_t choice_told(text protocol) {
     return mps_choice(protocol.at, protocol.length, 0, out, MOST);
 }
 
+/* Opens the room. */
+static bool opened(text protocol, mps_room *room, uint32_t *fault, uint64_t *place) {
+    return (is_full ? mps_open_full : mps_open)(protocol.at, protocol.length, room, fault, place);
+}
+
 /* Runs the script; the first time its texts are kept. */
 static void run(text protocol, text script, bool is_first) {
     mps_room room = {NULL};
@@ -100,11 +107,11 @@ static void run(text protocol, text script, bool is_first) {
     uint64_t place = 7;
     text role, command;
     requests = 0;
-    if (!mps_open(protocol.at, protocol.length, &room, &fault, &place)) {
+    if (!opened(protocol, &room, &fault, &place)) {
         if (fault != MPS_NO_MEMORY || place != 0 || room.at != NULL || blocks != 0) stop("no room, and not for memory");
         not_opened += 1;
         relent();
-        if (!mps_open(protocol.at, protocol.length, &room, &fault, &place)) stop("no room the second time");
+        if (!opened(protocol, &room, &fault, &place)) stop("no room the second time");
     }
     for (lines = 0; next_line(&script, &role, &command); lines += 1) run_line(&room, lines, role, command, is_first);
     uint64_t entries = mps_entries(&room);
@@ -124,7 +131,8 @@ static void run(text protocol, text script, bool is_first) {
 }
 
 int main(int words, char **names) {
-    if (words != 3) stop("usage: memory FILE SCRIPT");
+    if (words < 3) stop("usage: memory FILE SCRIPT [--full]");
+    is_full = words > 3;
     text protocol = whole_file(names[1]), script = whole_file(names[2]);
     blocks = 0;
     run(protocol, script, true);

@@ -1,6 +1,7 @@
-/* script FILE SCRIPT [--entries]: runs a script on a room of a protocol, and prints the answers; with --entries also the
- * entries of the journal. Each answer is asked for with all too little room first: what is written then has to be the front of
- * the whole, and no more. Where there is no room it says why as mps_tool does, but for the name of a role. */
+/* script FILE SCRIPT [--entries|--full]: runs a script on a room of a protocol, and prints the answers; with --entries also the
+ * entries of the journal; with --full the room is opened by full merging. Each answer is asked for with all too little room
+ * first: what is written then has to be the front of the whole, and no more. Where there is no room it says why as mps_tool
+ * does, but for the name of a role. */
 #include <inttypes.h>
 
 #include "texts.h"
@@ -59,16 +60,18 @@ static int refused(uint32_t fault, uint64_t place) {
 }
 
 int main(int count, char **words) {
-    if (count < 3) stop("usage: script FILE SCRIPT [--entries]");
+    if (count < 3) stop("usage: script FILE SCRIPT [--entries|--full]");
+    const char *more = count > 3 ? words[3] : "";
     text protocol = whole_file(words[1]), script = whole_file(words[2]), rest = script, role, command;
     uint8_t *out = malloc(MOST + 2);
     uint32_t fault = 0;
     uint64_t place = 0;
     mps_room room = {NULL};
     if (out == NULL) stop("no memory");
-    bool is_open = mps_open(protocol.at, protocol.length, &room, &fault, &place);
+    bool is_full = strcmp(more, "--full") == 0;
+    bool is_open = (is_full ? mps_open_full : mps_open)(protocol.at, protocol.length, &room, &fault, &place);
     for (size_t at = 0; is_open && next_line(&rest, &role, &command); at += 1) say(&room, role, command, out, at % 64);
-    if (is_open && count > 3) tell_entries(&room, out);
+    if (is_open && strcmp(more, "--entries") == 0) tell_entries(&room, out);
     mps_close(&room);
     mps_close(&room); /* which does nothing */
     free((void *)protocol.at);

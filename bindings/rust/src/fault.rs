@@ -6,7 +6,7 @@ use std::fmt;
 
 use crate::Room;
 
-/// Why [`Room::open`](crate::Room::open) gives no room.
+/// Why [`Room::open`](crate::Room::open) and [`Room::open_full`](crate::Room::open_full) give no room.
 #[derive(Clone, Copy, Debug, PartialEq, Eq, Hash)]
 pub enum OpenError {
     /// Memory ran out.
@@ -144,12 +144,32 @@ impl OpenError {
     /// );
     /// ```
     pub fn explained(&self, text: impl AsRef<[u8]>) -> String {
-        let text = text.as_ref();
-        self.named(text).unwrap_or_else(|| self.to_string())
+        self.said(text.as_ref(), "doesn't do the same in all branches")
+    }
+
+    /// [`explained`](OpenError::explained) of a text that gave no room by full merging, by which a role needn't do the same in
+    /// all branches.
+    ///
+    /// ```
+    /// use cizhmolat::Room;
+    ///
+    /// let text = "roles a b c ; a -> b { l : a -> c : int . end , r : end }";
+    /// assert_eq!(
+    ///     Room::open_full(text).unwrap_err().explained_full(text),
+    ///     "`c` takes no part in the choice between `a` and `b`, and can't be ready for all branches: `l`, `r`"
+    /// );
+    /// ```
+    pub fn explained_full(&self, text: impl AsRef<[u8]>) -> String {
+        self.said(text.as_ref(), "can't be ready for all branches")
+    }
+
+    /// What is wrong, in a sentence, of which this is what a role does wrong.
+    fn said(&self, text: &[u8], wrong: &str) -> String {
+        self.named(text, wrong).unwrap_or_else(|| self.to_string())
     }
 
     /// The sentence with names, where the fault is a projection's, and there was memory to read the text once more.
-    fn named(&self, text: &[u8]) -> Option<String> {
+    fn named(&self, text: &[u8], wrong: &str) -> Option<String> {
         let OpenError::Projection { role, choice } = *self else {
             return None;
         };
@@ -160,8 +180,7 @@ impl OpenError {
             labels,
         } = Room::choice(text, choice).ok()??;
         Some(format!(
-            "`{role}` takes no part in the choice between `{sender}` and `{receiver}`, and doesn't do the same in all \
-             branches: `{}`",
+            "`{role}` takes no part in the choice between `{sender}` and `{receiver}`, and {wrong}: `{}`",
             labels.join("`, `")
         ))
     }

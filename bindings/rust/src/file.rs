@@ -9,7 +9,7 @@ use std::path::Path;
 
 use crate::{sys, OpenError, Room};
 
-/// How a room is opened that a file keeps; [`Room::open_file`] is for session 1 without syncs.
+/// How a room is opened that a file keeps; [`Room::open_file`] is for session 1 without syncs, by plain merging.
 ///
 /// ```no_run
 /// use cizhmolat::FileOptions;
@@ -22,14 +22,16 @@ use crate::{sys, OpenError, Room};
 pub struct FileOptions {
     session: u64,
     sync: bool,
+    full_merging: bool,
 }
 
 impl FileOptions {
-    /// Session 1, without syncs.
+    /// Session 1, without syncs, by plain merging.
     pub fn new() -> FileOptions {
         FileOptions {
             session: 1,
             sync: false,
+            full_merging: false,
         }
     }
 
@@ -45,11 +47,22 @@ impl FileOptions {
         FileOptions { sync, ..self }
     }
 
+    /// Whether the room is opened by full merging, as by [`Room::open_full`]. The file doesn't say by which merging it was
+    /// written: a text that gives a room by both may have it by either. Why there is none
+    /// [`OpenError::explained_full`] says.
+    pub fn full_merging(self, full_merging: bool) -> FileOptions {
+        FileOptions {
+            full_merging,
+            ..self
+        }
+    }
+
     /// Opens the room as the file at the path leaves it. The file is made where there is none, and locked as long as the
     /// room is open. Its folder has to be there.
     pub fn open(self, text: impl AsRef<[u8]>, path: impl AsRef<Path>) -> Result<Room, FileError> {
         let (text, path) = (text.as_ref(), path.as_ref().as_os_str().as_bytes());
-        let flags = if self.sync { sys::SYNC } else { 0 };
+        let flags =
+            u32::from(self.sync) * sys::SYNC + u32::from(self.full_merging) * sys::FULL_MERGING;
         Room::opened(|room, fault, place| {
             // SAFETY: the text and the path are slices, and the three places are values of `opened`'s own.
             unsafe {

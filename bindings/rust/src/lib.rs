@@ -27,6 +27,7 @@ mod answer;
 mod expects;
 mod fault;
 mod file;
+pub mod states;
 mod sys;
 
 use std::cell::UnsafeCell;
@@ -82,17 +83,28 @@ impl Room {
     /// assert_eq!(fault, OpenError::Text { fault: TextFault::Unexpected, at: 25 });
     /// ```
     pub fn open(text: impl AsRef<[u8]>) -> Result<Room, OpenError> {
-        let text = text.as_ref();
-        Room::opened(|room, fault, place| {
-            // SAFETY: the text is a slice, and the three places are values of `opened`'s own.
-            unsafe { sys::mps_open(text.as_ptr(), text.len(), room, fault, place) }
-        })
-        .map_err(|(fault, place)| OpenError::of(fault, place))
+        Room::opened_by(sys::mps_open, text.as_ref())
+    }
+
+    /// Opens a room by full merging: a role that takes no part in a choice may be told of the branch by a label of its own, where
+    /// by the plain merging of [`open`](Room::open) it has to do the same in all branches. Where both give a room, they give the
+    /// same one. [`OpenError::explained_full`] says most of why there is none.
+    ///
+    /// ```
+    /// use cizhmolat::{OpenError, Room};
+    ///
+    /// let text = "roles a b c ; a -> b { l : a -> c { l : end } , m : a -> c { m : end } }";
+    /// let fault = Room::open(text).unwrap_err();
+    /// assert_eq!(fault, OpenError::Projection { role: 2, choice: 0 });
+    /// assert!(Room::open_full(text).is_ok());
+    /// ```
+    pub fn open_full(text: impl AsRef<[u8]>) -> Result<Room, OpenError> {
+        Room::opened_by(sys::mps_open_full, text.as_ref())
     }
 
     /// Opens a room that a file keeps: it is as the file at the path leaves it, and each command that is accepted from then
     /// on is in the file before its answer is told. The file is the journal of session 1, as a server's folder has it in
-    /// `1.journal`; [`FileOptions`] has other numbers, and syncs.
+    /// `1.journal`; [`FileOptions`] has other numbers, syncs, and full merging.
     ///
     /// ```
     /// use cizhmolat::{Answer, Room};
@@ -135,6 +147,15 @@ impl Room {
             unsafe { sys::mps_choice(text.as_ptr(), text.len(), number, out, capacity) }
         })?;
         Ok(Choice::of(&words))
+    }
+
+    /// The room that this call opens of the text, or why there is none.
+    fn opened_by(open: sys::Open, text: &[u8]) -> Result<Room, OpenError> {
+        Room::opened(|room, fault, place| {
+            // SAFETY: the text is a slice, and the three places are values of `opened`'s own.
+            unsafe { open(text.as_ptr(), text.len(), room, fault, place) }
+        })
+        .map_err(|(fault, place)| OpenError::of(fault, place))
     }
 
     /// The room that the call opens, or the number and the place of the fault that it tells.

@@ -9,14 +9,28 @@ pub(crate) const NO_MEMORY: usize = usize::MAX;
 /// The flag of `mps_open_file` by which the disk has stored each accepted command before its answer is told.
 pub(crate) const SYNC: u32 = 1;
 
+/// The flag of `mps_open_file` by which the room is that of `mps_open_full`.
+pub(crate) const FULL_MERGING: u32 = 2;
+
 /// The struct of one pointer that owns a room.
 #[repr(C)]
 pub(crate) struct Handle {
     pub(crate) at: *mut c_void,
 }
 
+/// `mps_open` or `mps_open_full`.
+pub(crate) type Open =
+    unsafe extern "C" fn(*const u8, usize, *mut Handle, *mut u32, *mut u64) -> bool;
+
 extern "C" {
     pub(crate) fn mps_open(
+        text: *const u8,
+        length: usize,
+        room: *mut Handle,
+        fault: *mut u32,
+        place: *mut u64,
+    ) -> bool;
+    pub(crate) fn mps_open_full(
         text: *const u8,
         length: usize,
         room: *mut Handle,

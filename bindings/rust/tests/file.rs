@@ -122,6 +122,43 @@ fn each_fault_of_a_file() {
 }
 
 #[test]
+fn a_room_by_full_merging_goes_on_by_it_alone() {
+    let text = "roles a b c ; a -> b { l : a -> c { l : end } , m : a -> c { m : end } }";
+    let folder = Folder::new("full");
+    let path = folder.file("1.journal");
+    for sync in [false, true] {
+        let full = FileOptions::new().full_merging(true).sync(sync);
+        let mut room = full.open(text, &path).unwrap();
+        assert_eq!(room.line("a", "1 choose b l"), Ok(Answer::Done(1)));
+        assert_eq!(room.line("a", "2 rollback 1"), Ok(Answer::Undone(vec![1])));
+        assert_eq!(room.line("a", "3 choose b m"), Ok(Answer::Done(2)));
+        assert_eq!(room.line("a", "4 choose c m"), Ok(Answer::Done(3)));
+        drop(room);
+        let kept = fs::read(&path).unwrap();
+        let plain = FileOptions::new().sync(sync).open(text, &path);
+        let Err(FileError::Room(fault)) = plain else {
+            panic!("{plain:?}")
+        };
+        assert_eq!(fault, OpenError::Projection { role: 2, choice: 0 });
+        assert_eq!(fs::read(&path).unwrap(), kept);
+        let mut room = full.open(text, &path).unwrap();
+        assert_eq!(room.entries(), 4);
+        assert_eq!(room.line("a", "4 choose c m"), Ok(Answer::Done(3)));
+        let picked = Ok(Answer::Picked(4, "m".into()));
+        assert_eq!(room.line("c", "1 pick a"), picked);
+        assert_eq!(room.expects("c"), Ok(Some(Expects::End)));
+        fs::remove_file(&path).unwrap();
+    }
+    // where plain merging gives a room too, the file is for both
+    for full_merging in [false, true, false] {
+        let options = FileOptions::new().full_merging(full_merging);
+        let mut room = options.open(TURNS, &path).unwrap();
+        room.line("a", "send b 5").unwrap();
+    }
+    assert_eq!(Room::open_file(TURNS, &path).unwrap().entries(), 3);
+}
+
+#[test]
 fn what_the_system_refuses() {
     let folder = Folder::new("system");
     let FileError::Io(error) = fault(TURNS, &folder.0) else {

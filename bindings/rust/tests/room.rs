@@ -1,7 +1,9 @@
 // SPDX-License-Identifier: MIT OR Apache-2.0
 //! A room as a caller sees it: each form of an answer, each refusal that a room gives, and each fault of a protocol.
 
-use cizhmolat::{Answer, Choice, Error, OpenError, ProtocolFault, Refusal, Room, TextFault, Value};
+use cizhmolat::{
+    Answer, Choice, Error, Expects, OpenError, ProtocolFault, Refusal, Room, TextFault, Value,
+};
 
 const RELAY: &str = "roles a b c ; a -> b : int . b -> c : int . end";
 const LOOP: &str = "roles a b ; rec X . a -> b { go : b -> a : text . X , stop : end }";
@@ -187,6 +189,54 @@ fn each_kind_of_a_fault() {
         text(TextFault::Word, 17).to_string(),
         "the text has a fault at byte 17: word"
     );
+}
+
+/// The choice of a is told to b, and then to c by labels of its own.
+const TOLD: &str = "roles a b c ; rec X . \
+    a -> b { go : a -> c { go : c -> a : int . X } , stop : a -> c { stop : end } }";
+
+#[test]
+fn a_room_by_full_merging() {
+    let fault = Room::open(TOLD).unwrap_err();
+    assert_eq!(fault, OpenError::Projection { role: 2, choice: 0 });
+    let mut room = Room::open_full(TOLD).unwrap();
+    for (line, answer) in [
+        ("a choose b stop", Answer::Done(1)),
+        ("a choose c stop", Answer::Done(2)),
+        ("c pick a", Answer::Picked(3, "stop".into())),
+        ("a rollback 1", Answer::Undone(vec![3, 2, 1])),
+        ("a choose b go", Answer::Done(4)),
+        ("a choose c go", Answer::Done(5)),
+        ("c pick a", Answer::Picked(6, "go".into())),
+        ("c send a 5", Answer::Done(7)),
+        ("a recv c x", Answer::Received(8, Value::Int(5))),
+        ("b pick a", Answer::Picked(9, "go".into())),
+        ("a choose b stop", Answer::Done(10)),
+        ("b pick a", Answer::Picked(11, "stop".into())),
+        ("a choose c stop", Answer::Done(12)),
+        ("c pick a", Answer::Picked(13, "stop".into())),
+    ] {
+        assert_eq!(say(&mut room, line), Ok(answer), "{line}");
+    }
+    for role in ["a", "b", "c"] {
+        assert_eq!(room.expects(role), Ok(Some(Expects::End)), "{role}");
+    }
+}
+
+#[test]
+fn what_full_merging_refuses_too() {
+    let text = "roles a b c ; a -> b { l : a -> c : int . end , r : end }";
+    let fault = Room::open_full(text).unwrap_err();
+    assert_eq!(fault, OpenError::Projection { role: 2, choice: 0 });
+    assert_eq!(
+        fault.explained_full(text),
+        "`c` takes no part in the choice between `a` and `b`, and can't be ready for all branches: `l`, `r`"
+    );
+    for text in ["", "roles a a ; end"] {
+        let fault = Room::open_full(text).unwrap_err();
+        assert_eq!(fault, Room::open(text).unwrap_err());
+        assert_eq!(fault.explained_full(text), fault.to_string());
+    }
 }
 
 #[test]

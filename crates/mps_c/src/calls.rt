@@ -11,10 +11,10 @@ ghost use Rattle.mps_line.specs.Replies.{SpellsReply};
 ghost use Rattle.mps_line.specs.declared.write_replies.Reply.TheVariants.{NoRole as Nobody, Unkept as Lost};
 ghost use Rattle.mps_open.specs.Faults.{GivesNoSession};
 ghost use Rattle.mps_room.specs.declared.entry.Entry.{Entry as Kept};
-ghost use Rattle.mps_c.specs.Results.{IsFilledOrLeft, length_of};
+ghost use Rattle.mps_c.specs.Results.{IsFilledOrLeft, length_of, merging_of};
 
 use mps_embed::{FileFault, FileOf, FileRoom, choice_into};
-use mps_open::Fault;
+use mps_open::{Fault, Merging};
 use std::alloc::{AllocError, Global};
 use std::io;
 use std::io::ErrorKind;
@@ -32,21 +32,36 @@ fn length_or_none(written: Result<usize, AllocError>) -> usize
     }
 }
 
-/// Opens a room of a new session of the protocol that the text spells, in a box, since C holds a pointer. The error is
-/// the first fault, or `Memory` where memory ran out before one was found; after it nothing is kept.
-pub fn open(alloc: Global, text: &[u8]) -> Result<Box<FileRoom>, Fault>
-    ensures opened { IfOk result (λ made. IsNewRoomOf text.now made.value) }
-    ensures fault { IfErr result (GivesNoSession text.now) }
+/// Opens a room of a new session of the protocol that the text spells, by that kind of merging, in a box, since C holds a
+/// pointer. The error is the first fault, or `Memory` where memory ran out before one was found; after it nothing is kept.
+pub fn open(alloc: Global, merging: Merging, text: &[u8]) -> Result<Box<FileRoom>, Fault>
+    ensures opened { IfOk result (λ made. IsNewRoomOf merging text.now made.value) }
+    ensures fault { IfErr result (GivesNoSession merging text.now) }
 {
-    let room = FileRoom::open(alloc, text)?;
+    let room = FileRoom::open_by(alloc, merging, text)?;
     match Box::new(alloc, room) {
         Ok(made) => Ok(made),
         Err(_) => Err(Fault::Memory),
     }
 }
 
-/// The flag by which each accepted line is stored on the disk before it is answered.
+// The flags, by which each accepted line is stored on the disk before it is answered, and by which branches are merged
+// fully.
 const SYNC: u32 = 1;
+
+const FULL_MERGING: u32 = 2;
+
+// The kind of merging that the flags ask for, of which there are no others.
+fn merging_of(flags: u32) -> Merging
+    requires { flags ≤ 3 }
+    ensures { result ≡ merging_of flags }
+{
+    if flags >= FULL_MERGING {
+        Merging::Full
+    } else {
+        Merging::Plain
+    }
+}
 
 /// `open`, as that file of the room leaves it, which goes on to record it. Flags that aren't known are refused as an invalid
 /// argument.
@@ -57,20 +72,20 @@ pub fn open_file(
     session: u64,
     flags: u32,
 ) -> Result<Box<FileRoom>, FileFault>
-    ensures opened { IfOk result (λ made. IsKeptRoomOf text.now made.value) }
-    ensures known { OnOk result (flags ≤ 1) }
-    ensures fault { flags ≤ 1 → IfErr result (GivesNoRoom text.now) }
-    ensures flags { 1 < flags → IfErr result IsUnusable }
+    ensures opened { IfOk result (λ made. IsKeptRoomOf (merging_of flags) text.now made.value) }
+    ensures known { OnOk result (flags ≤ 3) }
+    ensures fault { flags ≤ 3 → IfErr result (GivesNoRoom (merging_of flags) text.now) }
+    ensures flags { 3 < flags → IfErr result IsUnusable }
 {
-    if flags > SYNC {
+    if flags > SYNC + FULL_MERGING {
         return Err(FileFault::Unusable(io::Error::from(ErrorKind::InvalidInput)));
     }
     let of = FileOf {
         path,
         session,
-        sync: flags == SYNC,
+        sync: flags % FULL_MERGING == SYNC,
     };
-    let room = FileRoom::open_file(alloc, text, of)?;
+    let room = FileRoom::open_file_by(alloc, merging_of(flags), text, of)?;
     match Box::new(alloc, room) {
         Ok(made) => Ok(made),
         Err(_) => Err(FileFault::Room(Fault::Memory)),

@@ -1,7 +1,7 @@
 //! Rooms for callers in C, behind a struct of one pointer that owns one. The header is bindings/c/cizhmolat.h.
 #![tactic(auto)]
 
-ghost use Rattle.std.specs.Prelude.{◌≡◌, ◌≢◌, ℕ, ◌≤◌, true, false, Some, None, All, [], length, slice_get};
+ghost use Rattle.std.specs.Prelude.{◌≡◌, ◌≢◌, ℕ, ◌≤◌, true, false, Some, None, All, [], length, slice_get, IfErr, OnOk};
 ghost use types.Logic.{sem};
 ghost use Rattle.mps_embed.specs.Embedded.{IsAnswered, IsForesight, IsInSlot, IsOnlyTold, IsWanted, newest_at};
 ghost use Rattle.mps_embed.specs.Kept.{IsChoiceTold, IsStored};
@@ -12,10 +12,13 @@ ghost use Rattle.mps_keeper.specs.Trails.{RecordedOn};
 ghost use Rattle.mps_room.specs.Callers.{entries_of};
 ghost use Rattle.mps_room.specs.Numbers.{last_of};
 ghost use Rattle.mps_room.specs.declared.entry.Entry.{Entry as Kept};
+ghost use Rattle.mps_local.specs.declared.merging.Merging.TheVariants.{Plain, Full};
+ghost use Rattle.mps_open.specs.Faults.{number_of, place_of};
 ghost use Rattle.mps_c.specs.Handle.{handle_owns, RoomValue, the_code};
 ghost use Rattle.mps_c.specs.Results.{IsFilledOrLeft, Opens, OpensKept};
 
 use mps_embed::FileRoom;
+use mps_open::{Fault, Merging};
 use std::alloc::Global;
 use std::marker::Model;
 
@@ -47,9 +50,9 @@ impl Handle {
     }
 }
 
-/// Opens a room of a new session of the protocol that the text spells, and stores its pointer in `room`; `mps_close_at`
-/// has to free it. On `false` the fault's number and place are stored, and `room` stays; on `true` `fault` and `place`
-/// stay.
+/// Opens a room of a new session of the protocol that the text spells, by plain merging, and stores its pointer in `room`;
+/// `mps_close_at` has to free it. On `false` the fault's number and place are stored, and `room` stays; on `true` `fault`
+/// and `place` stay.
 #[unsafe(no_mangle)]
 pub extern "C" fn mps_open(
     alloc: Global,
@@ -58,11 +61,42 @@ pub extern "C" fn mps_open(
     fault: &mut u32,
     place: &mut u64,
 ) -> bool
-    ensures opened { Opens text.now result fault.new place.new }
+    ensures opened { Opens Plain text.now result fault.new place.new }
     ensures kept { result ≡ false → room.new ≡ room.old }
     ensures untold { result ≡ true → (fault.new ≡ fault.old) × (place.new ≡ place.old) }
 {
-    match calls::open(alloc, text) {
+    stored(calls::open(alloc, Merging::Plain, text), room, fault, place)
+}
+
+/// `mps_open` by full merging.
+#[unsafe(no_mangle)]
+pub extern "C" fn mps_open_full(
+    alloc: Global,
+    text: &[u8],
+    room: &mut *mut u8,
+    fault: &mut u32,
+    place: &mut u64,
+) -> bool
+    ensures opened { Opens Full text.now result fault.new place.new }
+    ensures kept { result ≡ false → room.new ≡ room.old }
+    ensures untold { result ≡ true → (fault.new ≡ fault.old) × (place.new ≡ place.old) }
+{
+    stored(calls::open(alloc, Merging::Full, text), room, fault, place)
+}
+
+// Stores the pointer of a room that was opened, or why there is none. Says whether there is one.
+fn stored(
+    opened: Result<Box<FileRoom>, Fault>,
+    room: &mut *mut u8,
+    fault: &mut u32,
+    place: &mut u64,
+) -> bool
+    ensures ok { OnOk opened (result ≡ true) }
+    ensures fault { IfErr opened (λ why. (result ≡ false) × (fault.new ≡ number_of why) × (place.new ≡ place_of why)) }
+    ensures kept { result ≡ false → room.new ≡ room.old }
+    ensures untold { result ≡ true → (fault.new ≡ fault.old) × (place.new ≡ place.old) }
+{
+    match opened {
         Ok(made) => {
             *room = Box::into_raw(made) as *mut u8;
             true

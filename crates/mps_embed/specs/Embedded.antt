@@ -16,6 +16,7 @@ use Rattle.mps_line.specs.declared.write_replies.Reply.TheVariants.{Answer as An
 use Rattle.mps_local.specs.Actions.{head}
 use Rattle.mps_machine.specs.Machine.{view_of}
 use Rattle.mps_machine.specs.View.{Participant}
+use Rattle.mps_local.specs.declared.merging.Merging.{Merging}
 use Rattle.mps_open.specs.Texts.{AreTypesOf}
 use Rattle.mps_room.specs.Journal.{answer_to, refusal_of, run}
 use Rattle.mps_room.specs.Numbers.{last_of, IsPosition}
@@ -69,10 +70,10 @@ pub record IsOnlyTold (reply : Reply) (before after : EmbeddedState) : Type 0 wh
   pub taken : after.taken ≡ before.taken
   pub whole : after.whole ≡ before.whole
 
--- the room is new, and of the protocol that the text spells; before its first line the reply is `refused norole`; nothing is
--- recorded
-pub record IsNewRoomOf (text : List ℕ) (e : EmbeddedState) : Type 0 where
-  pub types : AreTypesOf text e.room.names e.room.types
+-- the room is new, and of the protocol that the text spells, by that kind of merging; before its first line the reply is
+-- `refused norole`; nothing is recorded
+pub record IsNewRoomOf (merging : Merging) (text : List ℕ) (e : EmbeddedState) : Type 0 where
+  pub types : AreTypesOf merging text e.room.names e.room.types
   pub nothing : e.room.journal ≡ []
   pub unnumbered : All (λ n. n.newest ≡ None) e.numbers
   pub unanswered : e.reply ≡ NoRole

@@ -1,6 +1,7 @@
 -- Rooms that files keep.
 use Rattle.std.specs.Prelude.{◌≡◌, ◌⊎◌, ℕ, Bool, true, false, ◌&&◌, List, [], None, All, ⊤}
 use Rattle.mps_local.specs.Local.{LocalType}
+use Rattle.mps_local.specs.declared.merging.Merging.{Merging}
 use Rattle.mps_keeper.specs.Restored.{LinesRestored}
 use Rattle.mps_room.specs.Numbers.{newest_of}
 use Rattle.mps_room.specs.declared.numbers.Numbers.{Numbers}
@@ -27,12 +28,12 @@ pub record IsLedRoom (names : List (List ℕ)) (types : List LocalType) (e : Emb
       LinesRestored names types (record { journal = []; newest = newest_of blank }) lines
       (record { journal = e.room.journal; newest = newest_of e.numbers })
 
--- lines lead to the room, which is of the protocol that the text spells; what it accepts is recorded, and nothing is lost;
--- before its first line the reply is `refused norole`
-pub record IsKeptRoomOf (text : List ℕ) (e : EmbeddedState) : Type 0 where
+-- lines lead to the room, which is of the protocol that the text spells, by that kind of merging; what it accepts is
+-- recorded, and nothing is lost; before its first line the reply is `refused norole`
+pub record IsKeptRoomOf (merging : Merging) (text : List ℕ) (e : EmbeddedState) : Type 0 where
   pub names : List (List ℕ)
   pub types : List LocalType
-  pub of_text : AreTypesOf text names types
+  pub of_text : AreTypesOf merging text names types
   pub led : IsLedRoom names types e
   pub unanswered : e.reply ≡ NoRole
   pub recorded : e.records ≡ true
@@ -69,9 +70,10 @@ IsOfFile (Room fault) = fault ≡ Memory
 IsOfFile fault = ⊤
 
 -- why a text and a file give no room: the fault of the text, or a lack of memory; or the text has none, and the file does
-abbrev pub GivesNoRoom : List ℕ → FileFault → Type 0
-GivesNoRoom text (Room fault) = GivesNoSession text fault
-GivesNoRoom text fault = (names : List (List ℕ)) × (types : List LocalType) × AreTypesOf text names types
+abbrev pub GivesNoRoom : Merging → List ℕ → FileFault → Type 0
+GivesNoRoom merging text (Room fault) = GivesNoSession merging text fault
+GivesNoRoom merging text fault =
+    (names : List (List ℕ)) × (types : List LocalType) × AreTypesOf merging text names types
 
 -- Nothing is new, but that the room is lost where what was answered couldn't be stored. Where nothing is recorded all is
 -- stored; where something was lost before, not.

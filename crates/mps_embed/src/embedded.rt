@@ -6,6 +6,7 @@ ghost use Rattle.mps_base.specs.Appends.{AppendsSuch};
 ghost use Rattle.mps_keeper.specs.Trails.{RecordedOn};
 ghost use Rattle.mps_line.specs.Replies.{SpellsReply};
 ghost use Rattle.mps_line.specs.declared.write_replies.Reply.TheVariants.{NoRole as Nobody, Unkept as Lost};
+ghost use Rattle.mps_local.specs.declared.merging.Merging.TheVariants.{Plain};
 ghost use Rattle.mps_machine.specs.Machine.{initial};
 ghost use Rattle.mps_open.specs.Faults.{GivesNoSession};
 ghost use Rattle.mps_room.specs.Numbers.{last_of};
@@ -21,7 +22,7 @@ use mps_dev::Sink;
 use mps_keeper::laws::a_guest_is_answered_as_its_caller;
 use mps_keeper::{Book, Guest, RestoredRoom, Unguarded};
 use mps_line::Reply;
-use mps_open::{Fault, open_text};
+use mps_open::{Fault, Merging, open_text_by};
 use mps_room::{Caller, Numbers, Room, Solo};
 use mps_wire::{Outcome, take_line, write_outcome};
 use std::alloc::{AllocError, Global};
@@ -107,14 +108,22 @@ fn told(outcome: Outcome, whole: bool) -> Outcome
 }
 
 impl<W: Sink + Drop> Embedded<W> {
-    /// A room of a new session of the protocol that the text spells; before the first line its answer is `refused
-    /// norole`. Nothing is recorded. The error is the first fault of text or protocol, or `Memory` where memory ran out
-    /// before one was found.
+    /// A room of a new session of the protocol that the text spells, by plain merging; before the first line its answer is
+    /// `refused norole`. Nothing is recorded. The error is the first fault of text or protocol, or `Memory` where memory ran
+    /// out before one was found.
     pub fn open(alloc: Global, text: &[u8]) -> Result<Embedded<W>, Fault>
-        ensures opened { IfOk result (IsNewRoomOf text.now) }
-        ensures fault { IfErr result (GivesNoSession text.now) }
+        ensures opened { IfOk result (IsNewRoomOf Plain text.now) }
+        ensures fault { IfErr result (GivesNoSession Plain text.now) }
     {
-        let (roles, session) = open_text(alloc, text)?;
+        Embedded::open_by(alloc, Merging::Plain, text)
+    }
+
+    /// `open` by the merging that is given.
+    pub fn open_by(alloc: Global, merging: Merging, text: &[u8]) -> Result<Embedded<W>, Fault>
+        ensures opened { IfOk result (IsNewRoomOf merging text.now) }
+        ensures fault { IfErr result (GivesNoSession merging text.now) }
+    {
+        let (roles, session) = open_text_by(alloc, merging, text)?;
         let restored = RestoredRoom::new(alloc, roles, session)?;
         Ok(Embedded::of_restored(alloc, restored, None, Vec::new(alloc)))
     }

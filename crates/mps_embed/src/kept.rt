@@ -2,6 +2,7 @@
 ghost use Rattle.std.specs.Prelude.{◌≡◌, map, true, IfErr, IfOk};
 ghost use Rattle.mps_line.specs.declared.write_replies.Reply.TheVariants.{NoRole as Nobody};
 ghost use Rattle.mps_local.specs.Local.{plain};
+ghost use Rattle.mps_local.specs.declared.merging.Merging.TheVariants.{Plain};
 ghost use Rattle.mps_embed.specs.Kept.{GivesNoRoom, IsFilePlace, IsKeptRoomOf, IsLedRoom, IsOfFile, IsStored, file_number};
 ghost use Rattle.mps_keeper.specs.BookParts.{lines_of, seal_of, whole_of};
 ghost use Rattle.mps_embed.specs.declared.kept.FileFault.TheVariants.{Room as OfRoom};
@@ -14,7 +15,7 @@ use mps_file::{
     Descriptor, JournalFile, OwnFile, cut_off, held, marked, restore, store_name, torn,
 };
 use mps_keeper::{Book, LONGEST_LINE, Recorder, RestoreFault, Restored, RestoredRoom};
-use mps_open::{Fault, Opening};
+use mps_open::{Fault, Merging, Opening};
 use mps_text::write_protocol;
 use std::alloc::{AllocError, Global};
 use std::io;
@@ -205,16 +206,30 @@ impl Diary<OverWrite<JournalFile>> {
 }
 
 impl FileRoom {
-    /// A room of the protocol that the text spells, as that file of it leaves it, which its further commands are added to.
-    /// The file is made where there is none, and locked as long as the room is open. Sessions are 1 to 2^63, as a server's.
+    /// A room of the protocol that the text spells, by plain merging, as that file of it leaves it, which its further commands
+    /// are added to. The file is made where there is none, and locked as long as the room is open. Sessions are 1 to 2^63, as
+    /// a server's.
     ///
     /// What stands past its last whole line is what a write left that broke off: it is cut, and kept beside the file. Where
     /// a line isn't as it was written, or its command isn't accepted, the file stays as it is.
     pub fn open_file(alloc: Global, text: &[u8], of: FileOf<'_>) -> Result<FileRoom, FileFault>
-        ensures opened { IfOk result (IsKeptRoomOf text.now) }
-        ensures fault { IfErr result (GivesNoRoom text.now) }
+        ensures opened { IfOk result (IsKeptRoomOf Plain text.now) }
+        ensures fault { IfErr result (GivesNoRoom Plain text.now) }
     {
-        let opening = Opening::of_text(alloc, text)?;
+        FileRoom::open_file_by(alloc, Merging::Plain, text, of)
+    }
+
+    /// `open_file` by the merging that is given. The file says nothing of it: where both kinds give types they are the same.
+    pub fn open_file_by(
+        alloc: Global,
+        merging: Merging,
+        text: &[u8],
+        of: FileOf<'_>,
+    ) -> Result<FileRoom, FileFault>
+        ensures opened { IfOk result (IsKeptRoomOf merging text.now) }
+        ensures fault { IfErr result (GivesNoRoom merging text.now) }
+    {
+        let opening = Opening::of_text(alloc, merging, text)?;
         kept_room(alloc, opening, of)
     }
 

@@ -1,28 +1,33 @@
 -- Sessions of one protocol.
-use Rattle.std.proofs.Common.{◌≡◌, ◌≢◌, ℕ, zero, suc, ◌<◌, ◌≤◌, ⊎_elim, List, [], ◌∷◌, length, Some, None, refl, sym, ◌∙◌, subst, arith}
+use Rattle.std.proofs.Common.{◌≡◌, ◌≢◌, ℕ, zero, suc, ◌<◌, ◌≤◌, ⊎_elim, List, [], ◌∷◌, length, Some, None, refl, sym, ap, ◌∙◌, subst, arith, inl, inr}
 use Rattle.std.specs.Prelude.{slice_get}
-use Rattle.std.proofs.lemmas.Bool.{cases_eq, cases_lt}
+use Rattle.std.proofs.lemmas.Bool.{cases_lt}
 use Rattle.mps_base.specs.declared.action.Message.{Message}
 use Rattle.mps_base.specs.declared.action.Step.{Step}
 use Rattle.mps_global.specs.Global.{GlobalType}
 use Rattle.mps_global.specs.Faults.{fault_of}
+use Rattle.mps_global.proofs.Sound.{sound_protocol}
 use Rattle.mps_local.specs.Local.{LocalType, End}
 use Rattle.mps_local.specs.Projection.{projection}
 use Rattle.mps_local.specs.Shape.{AllPeers, IsOtherRole}
 use Rattle.mps_local.specs.Unfolding.{unfolded}
+use Rattle.mps_local.specs.declared.merging.Merging.TheVariants.{Plain}
+use Rattle.mps_local.proofs.Apart.{all_apart}
 use Rattle.mps_local.proofs.Faultless.{faultless, fine_so}
+use Rattle.mps_local.proofs.Filling.{filled, filled_same}
 use Rattle.mps_local.proofs.Projected.{fitting}
 use Rattle.mps_machine.specs.Machine.{State, initial, view_of, Request, after, IsSound}
-use Rattle.mps_machine.specs.Rule.{rule, replay}
+use Rattle.mps_machine.specs.Rule.{replay}
 use Rattle.mps_machine.specs.View.{View, opening, type_at}
-use Rattle.mps_machine.proofs.Peers.{after_peers, fact_by_role, unfolded_peers}
 use Rattle.mps_machine.proofs.Sound.{initial_sound, view_is, after_sound}
-use Rattle.mps_machine.proofs.Stepping.{rule_parts, replay_parts}
-use Rattle.mps_fidelity.specs.Duality.{From, direction, after_message, Dual, AreDual}
+use Rattle.mps_fidelity.specs.Duality.{Nowhere, From, direction, after_message, AreDual}
 use Rattle.mps_fidelity.specs.Fidelity.{AreOfOneProtocol, Expects, IsFaithful, IsHalfDuplex}
-use Rattle.mps_fidelity.proofs.Coherence.{Coherent, dual_coherent, front_expected, one_empty}
-use Rattle.mps_fidelity.proofs.Projections.{first_ended, second_ended, projections_dual}
-use Rattle.mps_fidelity.proofs.Steps.{AllCoherent, replay_coherent}
+use Rattle.mps_fidelity.proofs.Arriving.{Goes, env_of}
+use Rattle.mps_fidelity.proofs.Covering.{Covers, covers_same}
+use Rattle.mps_fidelity.proofs.Path.{Site, site}
+use Rattle.mps_fidelity.proofs.Projections.{projections_dual}
+use Rattle.mps_fidelity.proofs.Sites.{IsSound as IsSoundPart}
+use Rattle.mps_fidelity.proofs.UnderWay.{IsUnderWay, choices, replay_goes, front_taken, one_way}
 
 past_end : (types : List LocalType) (p : ℕ) → length types ≤ p → type_at types p ≡ End
 past_end [] p l = refl
@@ -34,29 +39,17 @@ at_place [] p l = absurd (omega arith)
 at_place (t ∷ types) zero l = refl
 at_place (t ∷ types) (suc p) l = at_place types p (omega arith)
 
-pub faultless_dual : (roles : List (List ℕ)) (tree : GlobalType) (p q : ℕ) (t u : LocalType) → fault_of roles tree ≡ None → p ≢ q → projection roles p tree ≡ Some t → projection roles q tree ≡ Some u → AreDual p q t u
+pub faultless_dual : (roles : List (List ℕ)) (tree : GlobalType) (p q : ℕ) (t u : LocalType) → fault_of roles tree ≡ None → p ≢ q → projection Plain roles p tree ≡ Some t → projection Plain roles q tree ≡ Some u → AreDual p q t u
 faultless_dual roles tree p q t u none ne e f = grind (arith, projections_dual, fine_so, faultless)
+
+ended : direction (unfolded End) ≡ Nowhere
+unfolding unfolded
+ended = refl
 
 -- The types of one protocol.
 module _ (types : List LocalType) (own : AreOfOneProtocol types) where
-  pub type_is : (p : ℕ) → p < length types → projection own.roles p own.tree ≡ Some (type_at types p)
+  pub type_is : (p : ℕ) → p < length types → projection own.merging own.roles p own.tree ≡ Some (type_at types p)
   type_is p l = own.projections.each p (omega arith) ∙ at_place types p l
-
-  -- each two of them are dual, a role that isn't there having ended
-  dual : (n p q : ℕ) → p ≢ q → Dual n p q (unfolded (type_at types p)) (unfolded (type_at types q))
-  dual zero p q ne = tt
-  dual (suc n) p q ne =
-      ⊎_elim
-      (λ (i : p < length types).
-      ⊎_elim
-      (λ (j : q < length types). faultless_dual own.roles own.tree p q (type_at types p) (type_at types q) own.faultless ne (type_is p i) (type_is q j) (suc n))
-      (λ (j : length types ≤ q). second_ended p q (Dual n p q) (unfolded (type_at types p)) (type_at types q) (past_end types q j))
-      (cases_lt q (length types)))
-      (λ (i : length types ≤ p). first_ended p q (Dual n p q) (type_at types p) (unfolded (type_at types q)) (past_end types p i))
-      (cases_lt p (length types))
-
-  coherent : (h : List Step) (v : View) → replay (opening types) h ≡ Some v → AllCoherent v
-  coherent h v e = grind (arith, replay_coherent, dual_coherent, dual)
 
   -- no role speaks with itself
   abbrev HavePeers : View → Type 0
@@ -65,36 +58,51 @@ module _ (types : List LocalType) (own : AreOfOneProtocol types) where
   pub opening_peers : HavePeers (opening types)
   opening_peers p = grind (arith, fitting, type_is, past_end, cases_lt)
 
-  peers_step : (v w : View) (s : Step) → rule v s ≡ Some w → HavePeers v → HavePeers w
-  peers_step v w s e a = grind (arith, rule_parts, after_peers, fact_by_role)
+  -- the way through the protocol on which each role chooses as it does in these steps
+  abbrev start : List Step → Site
+  start h = site (λ p. choices p h) [] own.tree
 
-  peers_replay : (h : List Step) (v w : View) → replay v h ≡ Some w → HavePeers v → HavePeers w
-  peers_replay [] v w e a = subst HavePeers (let same : v ≡ w = cc in same) a
-  peers_replay (s ∷ h) v w e a =
-      let parts = replay_parts v w s h e in
-      peers_replay h parts.0 w parts.2 (peers_step v parts.0 s parts.1 a)
+  sound : IsSoundPart own.roles own.tree
+  sound =
+      let nodes = (sound_protocol own.roles own.tree own.faultless).nodes in
+      record { above = []; bound = []; alike = λ z. refl; faultless = nodes; apart = all_apart own.roles [] own.tree nodes }
 
-received_peer : (P : ℕ → Type 0) (t : LocalType) (p : ℕ) → AllPeers P t → direction t ≡ From p → P p
-received_peer P t p a e = grind arith
+  -- a role begins where its type does
+  begins : (p : ℕ) (h : List Step) → p < length types → Goes own.merging own.roles p (unfolded (type_at types p)) (start h)
+  begins p h l =
+      let t = type_at types p in
+      let closed = (fine_so t (faultless own.merging own.roles p own.tree t own.faultless (type_is p l))).closed in
+      let whole : filled (env_of own.merging own.roles p []) t ≡ t = filled_same (env_of own.merging own.roles p []) [] (λ z e. absurd cc) t closed in
+      record {
+        part = t;
+        projected = type_is p l;
+        covered = λ n. subst (λ (z : LocalType). Covers n (unfolded t) (unfolded z)) (sym whole) (covers_same n (unfolded t));
+      }
+
+  opening_goes : (h : List Step) → IsUnderWay own.merging own.roles (start h) sound tt (opening types) h
+  opening_goes h = record {
+    place = λ p. zero;
+    follows = λ p. ⊎_elim
+        (λ (l : p < length types). inr (begins p h l, refl))
+        (λ (l : length types ≤ p). inl (ap (λ (t : LocalType). direction (unfolded t)) (past_end types p l) ∙ ended))
+        (cases_lt p (length types));
+    queued = λ p q ne. ([], refl, tt);
+  }
+
+  -- after any steps the session is under way
+  under_way : (h : List Step) (v : View) → replay (opening types) h ≡ Some v → IsUnderWay own.merging own.roles (start h) sound tt v []
+  under_way h v e = replay_goes own.merging own.roles (start h) sound tt h (opening types) v e (opening_goes h)
 
 expects : (t : LocalType) (p : ℕ) (m : Message) → (direction t ≡ From p → (x : LocalType) × (after_message t m ≡ Some x)) → Expects t p m
 expects t p m f = grind arith
 
 pub faithful : (types : List LocalType) (h : List Step) (v : View) → AreOfOneProtocol types → replay (opening types) h ≡ Some v → IsFaithful v
 faithful types h v own e p q m ms front =
-    expects (unfolded (v.participant q).to_come) p m (λ takes.
-    ⊎_elim
-    (λ (same : p ≡ q).
-    let peers = peers_replay types own h (opening types) v e (opening_peers types own) q in
-    grind (arith, received_peer, unfolded_peers))
-    (λ (ne : p ≢ q).
-    front_expected zero q p (v.queue q p) ms (unfolded (v.participant q).to_come) (unfolded (v.participant p).to_come) m
-    (subst (λ (l : List Message). Coherent (suc zero) q p (v.queue q p) l (unfolded (v.participant q).to_come) (unfolded (v.participant p).to_come)) front
-    (coherent types own h v e (suc zero) q p (λ f. ne (sym f)))) takes)
-    (cases_eq p q))
+    expects (unfolded (v.participant q).to_come) p m
+    (front_taken own.merging own.roles (start types own h) (sound types own) tt v [] p q m ms (under_way types own h v e) front)
 
 pub half_duplex : (types : List LocalType) (h : List Step) (v : View) (p q : ℕ) → AreOfOneProtocol types → replay (opening types) h ≡ Some v → p ≢ q → IsHalfDuplex v p q
-half_duplex types h v p q own e ne = grind (arith, one_empty zero p q (v.queue p q) (v.queue q p) (unfolded (v.participant p).to_come) (unfolded (v.participant q).to_come) (coherent types own h v e zero p q ne))
+half_duplex types h v p q own e ne = one_way own.merging own.roles (start types own h) (sound types own) tt v [] p q (under_way types own h v e) ne
 
 -- the same of sound states, and so of those that requests lead to
 pub sound_faithful : (types : List LocalType) (st : State) → AreOfOneProtocol types → IsSound types st → IsFaithful (view_of types st.history)

@@ -14,6 +14,7 @@ use Rattle.mps_local.specs.Examples as protocols
 use Rattle.mps_local.specs.Examples.{three, chosen, int_to, bool_to, in_loops, outer, relay, loops, turns}
 use Rattle.mps_local.specs.Local.{LocalType, Branches, End, Var, Rec, Send, Recv, Select, Branch, NoMore, More}
 use Rattle.mps_local.specs.Outcome.{AreProjections}
+use Rattle.mps_local.specs.declared.merging.Merging.{Merging}
 use Rattle.mps_machine.specs.Examples.{a, b, c, verdict, unfitting, sends_int, receives_into, chooses, picks}
 use Rattle.mps_machine.specs.Examples.{rolls_back, done, done_with, done_label, violates, relayed_then, relay_done_then}
 use Rattle.mps_machine.specs.Machine.{Request, initial, view_of, answers, after}
@@ -21,9 +22,9 @@ use Rattle.mps_machine.specs.View.{View}
 use Rattle.mps_fidelity.specs.Duality.{AreDual}
 use Rattle.mps_fidelity.specs.Fidelity.{IsFaithful, IsHalfDuplex}
 
--- the tree has no fault, and these are what the three roles do in it
-abbrev pub DoInIt : GlobalType → List LocalType → Type 0
-DoInIt tree types = (fault_of three tree ≡ None) × AreProjections three tree types
+-- the tree has no fault, and these are what the three roles do in it by that kind of merging
+abbrev pub DoInIt : Merging → GlobalType → List LocalType → Type 0
+DoInIt merging tree types = (fault_of three tree ≡ None) × AreProjections merging three tree types
 
 -- what is held after requests
 abbrev pub view_reached : List LocalType → List Request → View
@@ -63,6 +64,16 @@ aside_types =
     ∷ End
     ∷ []
 
+-- a loop that three roles leave together, by full merging: c hears from a whether there is another round
+abbrev pub round_types : List LocalType
+round_types =
+    Rec (codes "X") (Select b (left_or_right
+    (Select c (More (codes "more") (Recv c IntSort (Var (codes "X"))) NoMore))
+    (Select c (More (codes "stop") End NoMore))))
+    ∷ Rec (codes "X") (Branch a (left_or_right (Var (codes "X")) End))
+    ∷ Rec (codes "X") (Branch a (More (codes "more") (Send a IntSort (Var (codes "X"))) (More (codes "stop") End NoMore)))
+    ∷ []
+
 -- c's answer and what followed from b's receipt are taken back, and another answer is given
 abbrev pub AnotherAnswerIsGiven : Type 0
 AnotherAnswerIsGiven =
@@ -90,6 +101,17 @@ EitherBranchIsTaken =
     ∷ sends_int a c 2 ∷ receives_into c a (codes "x") ∷ picks b a ∷ picks b a ∷ [])
     ≡ done 1 ∷ done 2 ∷ done_with 3 1 ∷ done 4 ∷ done 5 ∷ done_with 6 2 ∷ done_label 7 (codes "r")
     ∷ done_label 8 (codes "l") ∷ []
+
+-- a goes one round with c and tells it of the end before b knows of either; a rollback of the end leaves the round
+abbrev pub ThreeLeaveTogether : Type 0
+ThreeLeaveTogether =
+    answers round_types initial
+    (chooses a b (codes "l") ∷ chooses a c (codes "more") ∷ picks c a ∷ sends_int c a 5 ∷ receives_into a c (codes "x")
+    ∷ chooses a b (codes "r") ∷ chooses a c (codes "stop") ∷ picks c a ∷ rolls_back a 7 ∷ chooses a c (codes "stop")
+    ∷ picks b a ∷ picks b a ∷ picks c a ∷ [])
+    ≡ done 1 ∷ done 2 ∷ done_label 3 (codes "more") ∷ done 4 ∷ done_with 5 5 ∷ done 6 ∷ done 7
+    ∷ done_label 8 (codes "stop") ∷ Undone (8 ∷ 7 ∷ []) ∷ done 9 ∷ done_label 10 (codes "l") ∷ done_label 11 (codes "r")
+    ∷ done_label 12 (codes "stop") ∷ []
 
 -- where the types aren't of one protocol, a message need not be the expected one: b expects a bool
 abbrev pub TypesHaveToFit : Type 0

@@ -6,6 +6,7 @@ use Rattle.mps_global.specs.Faults.{fault_of}
 use Rattle.mps_local.specs.Local.{LocalType, Recv, Branch}
 use Rattle.mps_local.specs.Outcome.{AreProjections}
 use Rattle.mps_local.specs.Unfolding.{unfolded}
+use Rattle.mps_local.specs.declared.merging.Merging.{Merging}
 use Rattle.mps_command.specs.declared.answer.Answer.{Answer}
 use Rattle.mps_command.specs.declared.answer.Answer.TheVariants.{Refused}
 use Rattle.mps_command.specs.declared.answer.Refusal.TheVariants.{Violation as Violates}
@@ -13,12 +14,13 @@ use Rattle.mps_command.specs.declared.answer.Violation.TheVariants.{Mismatch}
 use Rattle.mps_machine.specs.View.{View}
 use Rattle.mps_machine.specs.Violations.{is_value_of, is_label_of}
 
--- the types are what the roles of one protocol without faults do
+-- the types are what the roles of one protocol without faults do, by either kind of merging
 pub record AreOfOneProtocol (types : List LocalType) : Type 0 where
+  pub merging : Merging
   pub roles : List (List ℕ)
   pub tree : GlobalType
   pub faultless : fault_of roles tree ≡ None
-  pub projections : AreProjections roles tree types
+  pub projections : AreProjections merging roles tree types
 
 -- an unfolded type that begins with an input from p expects this message of p
 abbrev pub Expects : LocalType → ℕ → Message → Type 0

@@ -1,4 +1,4 @@
-//! Laws of sessions whose opening types are the projections of one protocol without faults.
+//! Laws of sessions whose opening types are the projections of one protocol without faults, by either kind of merging.
 ghost use Rattle.std.specs.Prelude.{◌≡◌, ◌≢◌, ℕ, List, Some, None};
 ghost use Rattle.std.specs.List.{AllByRecursion};
 ghost use Rattle.mps_base.specs.declared.action.Act.{Act};
@@ -9,6 +9,7 @@ ghost use Rattle.mps_global.specs.Global.{GlobalType};
 ghost use Rattle.mps_global.specs.Faults.{fault_of};
 ghost use Rattle.mps_local.specs.Local.{LocalType};
 ghost use Rattle.mps_local.specs.Projection.{projection};
+ghost use Rattle.mps_local.specs.declared.merging.Merging.TheVariants.{Plain};
 ghost use Rattle.mps_machine.specs.View.{View, opening};
 ghost use Rattle.mps_machine.specs.Rule.{replay};
 ghost use Rattle.mps_machine.specs.Violations.{violation};
@@ -16,12 +17,12 @@ ghost use Rattle.mps_machine.specs.Machine.{Request, State, IsSound, initial, vi
 ghost use Rattle.mps_fidelity.specs.Duality.{AreDual};
 ghost use Rattle.mps_fidelity.specs.Fidelity.{AreOfOneProtocol, IsFaithful, IsHalfDuplex, mismatch};
 
-/// A law: what two roles of a protocol without faults do towards each other is dual (Honda, Vasconcelos, Kubo 1998):
-/// what one sends the other receives. A role that has ended counts as dual to any.
+/// A law: what two roles of a protocol without faults do towards each other by plain merging is dual (Honda,
+/// Vasconcelos, Kubo 1998): what one sends the other receives. A role that has ended counts as dual to any.
 pub fn projections_are_dual()
     ensures { (roles : List (List ℕ)) (tree : GlobalType) (p q : ℕ) (t u : LocalType)
         → fault_of roles tree ≡ None → p ≢ q
-        → projection roles p tree ≡ Some t → projection roles q tree ≡ Some u → AreDual p q t u }
+        → projection Plain roles p tree ≡ Some t → projection Plain roles q tree ≡ Some u → AreDual p q t u }
 {}
 
 /// A law: between two roles messages never wait in both directions (half-duplex, as in Cécé, Finkel 2005), after any

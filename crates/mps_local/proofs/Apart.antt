@@ -7,7 +7,6 @@ use Rattle.mps_global.specs.Global.{GlobalType}
 use Rattle.mps_global.specs.Path.{Edge, Loop, Act}
 use Rattle.mps_global.specs.Faults.{labels, places, branch_places, first_true, pair_tests, label_tests, rec_tests, tests_at, first_fault}
 use Rattle.mps_global.specs.declared.faults.GlobalFault.{GlobalFault}
-use Rattle.mps_global.specs.declared.faults.GlobalFault.TheVariants as faults
 use Rattle.mps_global.proofs.Walks.{first_of_tests, first_of_both}
 use Rattle.mps_local.specs.Projection.{place_of}
 use Rattle.mps_local.proofs.Places.{place_below, places_differ}

@@ -6,9 +6,8 @@ use Rattle.std.proofs.lemmas.Bool.{cases_Bool, and_parts, and_from, eqb-true, eq
 use Rattle.std.proofs.lemmas.Slice.Eq.{bytes_eq-Decides}
 use Rattle.mps_base.specs.Sorts.{same_sort}
 use Rattle.mps_base.specs.declared.value.Sort.{Sort}
-use Rattle.mps_base.specs.declared.value.Sort.TheVariants as sorts
 use Rattle.mps_local.specs.Local.{LocalType, Branches, End, Var, Rec, Send, Recv, Select, Branch, NoMore, More}
-use Rattle.mps_local.specs.Projection.{same, same_branches}
+use Rattle.mps_local.specs.Merged.{same, same_branches}
 
 pub name_same : (x : List ℕ) → bytes_eq x x ≡ true
 name_same x = (bytes_eq-Decides x x).1 refl
@@ -19,10 +18,10 @@ name_is x y e = (bytes_eq-Decides x y).0 e
 pub name_turned : (x y : List ℕ) → bytes_eq x y ≡ bytes_eq y x
 name_turned x y = grind (arith, bytes_eq-Decides, name_is, cases_Bool)
 
-same_sort_is : (s t : Sort) → same_sort s t ≡ true → s ≡ t
+pub same_sort_is : (s t : Sort) → same_sort s t ≡ true → s ≡ t
 same_sort_is s t e = grind arith
 
-sort_same : (s : Sort) → same_sort s s ≡ true
+pub sort_same : (s : Sort) → same_sort s s ≡ true
 sort_same s = grind arith
 
 mutual

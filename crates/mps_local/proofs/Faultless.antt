@@ -14,15 +14,17 @@ use Rattle.mps_global.proofs.Sound.{sound_protocol}
 use Rattle.mps_global.proofs.Walks.{first_of_tests}
 use Rattle.mps_local.specs.Local.{LocalType, Branches, End, Var, Rec, Send, Recv, Select, Branch, NoMore, More}
 use Rattle.mps_local.specs.Actions.{labels}
-use Rattle.mps_local.specs.Shape.{node_count, depth}
+use Rattle.mps_local.specs.Shape.{node_count, depth, IsOtherRole}
 use Rattle.mps_local.specs.Projection.{projection}
 use Rattle.mps_local.specs.Loops.{is_closed, are_closed, ends_in, is_guarded, are_guarded, is_unshadowed, are_unshadowed, are_labels, is_labelled, are_labelled}
 use Rattle.mps_local.specs.LocalFaults.{places, branch_places, size_tests, label_tests, rec_tests, tests_at, fault_at, local_fault_of}
 use Rattle.mps_local.specs.declared.faults.LocalFault.TheVariants as faults
+use Rattle.mps_local.specs.declared.merging.Merging.{Merging}
 use Rattle.mps_local.proofs.Apart.{both_none, both_pass}
 use Rattle.mps_local.proofs.Equal.{name_same, name_is, name_turned}
 use Rattle.mps_local.proofs.Faulty.{first_of_both}
-use Rattle.mps_local.proofs.Looping.{true_unless, false_where, labels_so, not_so, sound_closed, projection_closed, projection_guarded, projection_unshadowed, projection_labelled}
+use Rattle.mps_local.proofs.Formed.{IsFormed, AreFormed}
+use Rattle.mps_local.proofs.Looping.{true_unless, false_where, labels_so, faultless_formed}
 use Rattle.mps_local.proofs.Projected.{fitting}
 
 none_then : {F : Type 0} (a b : Option F) → a ≡ None → b ≡ None → option_or a b ≡ None
@@ -53,6 +55,9 @@ or_second a b h = grind arith
 
 second_of : (a b : Bool) → (a || b) ≡ true → a ≡ false → b ≡ true
 second_of a b h e = grind arith
+
+not_so : (a b : Bool) → a ≡ false → b ≡ true → (not a && b) ≡ true
+not_so a b e f = grind arith
 
 not_true : (a : Bool) → not a ≡ true → a ≡ false
 not_true a e = grind arith
@@ -101,18 +106,63 @@ mutual
 pub faultless_so : (t : LocalType) → is_closed [] t ≡ true → is_guarded t ≡ true → is_unshadowed [] t ≡ true → is_labelled t ≡ true → node_count t ≤ 256 → depth t ≤ 64 → local_fault_of t ≡ None
 faultless_so t c g u l n d = grind (arith, first_of_tests, nat_tests, no_fault)
 
--- and projections are such types
-pub faultless : (roles : List (List ℕ)) (role : ℕ) (tree : GlobalType) (t : LocalType) → fault_of roles tree ≡ None → projection roles role tree ≡ Some t → local_fault_of t ≡ None
-faultless roles role tree t h e =
+-- what holds of a type whose nodes have no fault, where these variables are bound
+pub record IsFine (bound : List (List ℕ)) (t : LocalType) : Type 0 where
+  pub closed : is_closed bound t ≡ true
+  pub guarded : is_guarded t ≡ true
+  pub unshadowed : is_unshadowed bound t ≡ true
+  pub labelled : is_labelled t ≡ true
+
+record AreFine (bound : List (List ℕ)) (ts : Branches) : Type 0 where
+  closed : are_closed bound ts ≡ true
+  guarded : are_guarded ts ≡ true
+  unshadowed : are_unshadowed bound ts ≡ true
+  labelled : are_labelled ts ≡ true
+
+mutual
+  -- a type that is formed is fine
+  formed_fine : (IsPeer : ℕ → Type 0) (bound : List (List ℕ)) (t : LocalType) → IsFormed IsPeer bound t → IsFine bound t
+  formed_fine IsPeer bound End h = record { closed = refl; guarded = refl; unshadowed = refl; labelled = refl }
+  formed_fine IsPeer bound (Var name) h = record { closed = h; guarded = refl; unshadowed = refl; labelled = refl }
+  formed_fine IsPeer bound (Rec name body) h =
+      let k = formed_fine IsPeer (name ∷ bound) body h.2 in record {
+        closed = k.closed;
+        guarded = not_so (ends_in name body) (is_guarded body) h.1 k.guarded;
+        unshadowed = not_so (list_any (bytes_eq name) bound) (is_unshadowed (name ∷ bound) body) h.0 k.unshadowed;
+        labelled = k.labelled;
+      }
+  formed_fine IsPeer bound (Send peer sort next) h =
+      let k = formed_fine IsPeer bound next h.1 in
+      record { closed = k.closed; guarded = k.guarded; unshadowed = k.unshadowed; labelled = k.labelled }
+  formed_fine IsPeer bound (Recv peer sort next) h =
+      let k = formed_fine IsPeer bound next h.1 in
+      record { closed = k.closed; guarded = k.guarded; unshadowed = k.unshadowed; labelled = k.labelled }
+  formed_fine IsPeer bound (Select peer branches) h =
+      let k = all_formed_fine IsPeer bound branches h.2 in
+      record { closed = k.closed; guarded = k.guarded; unshadowed = k.unshadowed; labelled = and_from (are_labels (labels branches)) (are_labelled branches) h.1 k.labelled }
+  formed_fine IsPeer bound (Branch peer branches) h =
+      let k = all_formed_fine IsPeer bound branches h.2 in
+      record { closed = k.closed; guarded = k.guarded; unshadowed = k.unshadowed; labelled = and_from (are_labels (labels branches)) (are_labelled branches) h.1 k.labelled }
+
+  all_formed_fine : (IsPeer : ℕ → Type 0) (bound : List (List ℕ)) (ts : Branches) → AreFormed IsPeer bound ts → AreFine bound ts
+  all_formed_fine IsPeer bound NoMore h = record { closed = refl; guarded = refl; unshadowed = refl; labelled = refl }
+  all_formed_fine IsPeer bound (More label t others) h =
+      let k = formed_fine IsPeer bound t h.0 in
+      let l = all_formed_fine IsPeer bound others h.1 in record {
+        closed = and_from (is_closed bound t) (are_closed bound others) k.closed l.closed;
+        guarded = and_from (is_guarded t) (are_guarded others) k.guarded l.guarded;
+        unshadowed = and_from (is_unshadowed bound t) (are_unshadowed bound others) k.unshadowed l.unshadowed;
+        labelled = and_from (is_labelled t) (are_labelled others) k.labelled l.labelled;
+      }
+
+-- projections are such types
+pub faultless : (merging : Merging) (roles : List (List ℕ)) (role : ℕ) (tree : GlobalType) (t : LocalType) → fault_of roles tree ≡ None → projection merging roles role tree ≡ Some t → local_fault_of t ≡ None
+faultless merging roles role tree t h e =
     let sound = sound_protocol roles tree h in
-    let fits = fitting roles role tree t h e in
+    let fits = fitting merging roles role tree t h e in
     let small = sound.small in let shallow = sound.shallow in let n = fits.nodes_fit in let l = fits.levels_fit in
-    faultless_so t
-    (projection_closed roles role [] tree t (sound_closed roles [] [] (λ z k. k) tree sound.nodes) e)
-    (projection_guarded roles role tree t e)
-    (projection_unshadowed roles role [] [] (λ z k. k) tree t sound.nodes e)
-    (projection_labelled roles role [] tree t sound.nodes e)
-    (omega arith) (omega arith)
+    let k = formed_fine (IsOtherRole (length roles) role) [] t (faultless_formed merging roles role tree t h e) in
+    faultless_so t k.closed k.guarded k.unshadowed k.labelled (omega arith) (omega arith)
 
 -- where a type's nodes have no fault, it does not come to an unguarded variable before an act
 unended : (z : List ℕ) (above : List Edge) (t : LocalType) → is_unguarded z above ≡ true → fault_at (places above t) ≡ None → ends_in z t ≡ false
@@ -128,19 +178,6 @@ unended z above (Rec name body) u h = by_test (bytes_eq name z)
     by_test true e = refl
     by_test false e = e
 unended z above other u h = refl
-
--- what holds of a type whose nodes have no fault, where these variables are bound
-pub record IsFine (bound : List (List ℕ)) (t : LocalType) : Type 0 where
-  pub closed : is_closed bound t ≡ true
-  pub guarded : is_guarded t ≡ true
-  pub unshadowed : is_unshadowed bound t ≡ true
-  pub labelled : is_labelled t ≡ true
-
-record AreFine (bound : List (List ℕ)) (ts : Branches) : Type 0 where
-  closed : are_closed bound ts ≡ true
-  guarded : are_guarded ts ≡ true
-  unshadowed : are_unshadowed bound ts ≡ true
-  labelled : are_labelled ts ≡ true
 
 choice_labels : (names : List (List ℕ)) → first_true (label_tests names) ≡ None → are_labels names ≡ true
 choice_labels names h = labels_so faults.DoubleLabel faults.TooManyBranches faults.NoBranches (has_double names) (nat_lt 16 (length names)) (length names == 0) h

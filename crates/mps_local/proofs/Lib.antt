@@ -10,12 +10,15 @@ pub mod Projected
 pub mod Equal
 pub mod Leading
 pub mod Unmerged
-pub mod Merging
+pub mod Merged
+pub mod Formed
+pub mod Over
 pub mod Filling
 pub mod Sizes
 pub mod Faulty
 pub mod Told
 pub mod Silence
 pub mod Looping
+pub mod Fuller
 pub mod Faultless
 pub mod Each

@@ -1,10 +1,12 @@
 -- Worked projections: trees whose local types were worked out by hand, and choices that a third role can't merge.
-use Rattle.std.specs.Prelude.{◌≡◌, ℕ, List, [], ◌∷◌, Some, None, codes}
+use Rattle.std.specs.Prelude.{◌≡◌, ℕ, zero, suc, List, [], ◌∷◌, Some, None, codes}
 use Rattle.mps_base.specs.declared.value.Sort.TheVariants.{Int, Bool as Truth, Text}
 use Rattle.mps_global.specs.Global as global
 use Rattle.mps_global.specs.Global.{GlobalType, Message, Choice}
 use Rattle.mps_local.specs.Local.{LocalType, Branches, End, Var, Rec, Send, Recv, Select, Branch, NoMore, More}
 use Rattle.mps_local.specs.Projection.{projection, examined, first_unmerged}
+use Rattle.mps_local.specs.declared.merging.Merging.{Merging}
+use Rattle.mps_local.specs.declared.merging.Merging.TheVariants.{Plain, Full}
 
 -- three roles, by their names and by their places
 abbrev pub a : List ℕ
@@ -28,15 +30,29 @@ at_b = 1
 abbrev pub at_c : ℕ
 at_c = 2
 
--- the role at that place does that in the tree, and no choice is named
-abbrev pub Does : ℕ → GlobalType → LocalType → Type 0
-Does role tree t =
-    (projection three role tree ≡ Some t) × (first_unmerged three role (examined three role 0 tree) ≡ None)
+-- with that kind of merging the role at that place does that in the tree, and no choice is named
+abbrev pub DoesWith : Merging → ℕ → GlobalType → LocalType → Type 0
+DoesWith merging role tree t =
+    (projection merging three role tree ≡ Some t)
+    × (first_unmerged merging three role (examined three role 0 tree) ≡ None)
 
--- c has no projection, and the first choice of the tree is named
+-- the role does that in the tree with either kind
+abbrev pub Does : ℕ → GlobalType → LocalType → Type 0
+Does role tree t = DoesWith Plain role tree t × DoesWith Full role tree t
+
+-- with that kind of merging c has no projection, and the first choice of the tree is named
+abbrev pub CantMergeWith : Merging → GlobalType → Type 0
+CantMergeWith merging tree =
+    (projection merging three at_c tree ≡ None)
+    × (first_unmerged merging three at_c (examined three at_c 0 tree) ≡ Some 0)
+
+-- so it is with either kind
 abbrev pub CantMergeFirst : GlobalType → Type 0
-CantMergeFirst tree =
-    (projection three at_c tree ≡ None) × (first_unmerged three at_c (examined three at_c 0 tree) ≡ Some 0)
+CantMergeFirst tree = CantMergeWith Plain tree × CantMergeWith Full tree
+
+-- c has that type with full merging, and none with plain merging
+abbrev pub MergesFully : GlobalType → LocalType → Type 0
+MergesFully tree t = CantMergeWith Plain tree × DoesWith Full at_c tree t
 
 -- a chooses between two labels, and b takes the choice
 abbrev pub chosen : GlobalType → GlobalType → GlobalType
@@ -52,6 +68,37 @@ bool_to sender receiver next = Message sender receiver Truth next
 -- a choice of one label, and then the end
 abbrev pub only : List ℕ → List ℕ → List ℕ → GlobalType
 only sender receiver label = Choice sender receiver (global.More label global.End global.NoMore)
+
+-- the same, and then that
+abbrev pub told : List ℕ → List ℕ → List ℕ → GlobalType → GlobalType
+told sender receiver label next = Choice sender receiver (global.More label next global.NoMore)
+
+-- a chooses among three labels, and b takes the choice
+abbrev pub chosen_of_three : GlobalType → GlobalType → GlobalType → GlobalType
+chosen_of_three left middle right =
+    Choice a b
+    (global.More (codes "l") left (global.More (codes "m") middle (global.More (codes "r") right global.NoMore)))
+
+-- a choice of two labels, and then the end
+abbrev pub one_of : List ℕ → List ℕ → List ℕ → List ℕ → GlobalType
+one_of sender receiver label other =
+    Choice sender receiver (global.More label global.End (global.More other global.End global.NoMore))
+
+-- so many labels, with these numbers as their codes, and then the end
+abbrev pub counted : ℕ → ℕ → global.Branches
+counted zero first = global.NoMore
+counted (suc n) first = global.More (first ∷ []) global.End (counted n (suc first))
+
+-- the same, as branches of a local type
+abbrev pub counted_labels : ℕ → ℕ → Branches
+counted_labels zero first = NoMore
+counted_labels (suc n) first = More (first ∷ []) End (counted_labels n (suc first))
+
+-- a loop that three roles leave together: c hears from a whether there is another round
+abbrev pub rounds : GlobalType
+rounds =
+    global.Rec (codes "X")
+    (chosen (told a c (codes "more") (int_to c a (global.Var (codes "X")))) (told a c (codes "stop") global.End))
 
 -- both in a loop in a loop
 abbrev pub in_loops : GlobalType → GlobalType

@@ -1,4 +1,5 @@
 pub mod Local
+pub mod Merged
 pub mod Projection
 pub mod Shape
 pub mod Text

@@ -1,18 +1,15 @@
--- What one role does in a protocol without faults (Honda, Yoshida, Carbone, POPL 2008; without merging of
--- branches that differ, and with `end` for a loop that a role takes no part in).
+-- What one role does in a protocol without faults (Honda, Yoshida, Carbone, POPL 2008; with `end` for a loop that a role
+-- takes no part in, and plain or full merging).
 use Rattle.std.specs.Prelude.{ℕ, suc, ◌+◌, Bool, true, false, ◌==◌, ◌&&◌, ◌||◌, not, List, [], ◌∷◌, ◌++◌, Option, Some}
-use Rattle.std.specs.Prelude.{None, option_map, option_and_then, if◌then◌else◌}
+use Rattle.std.specs.Prelude.{None, option_map, if◌then◌else◌}
 use Rattle.std.specs.List.{list_any, position_or_len}
 use Rattle.std.specs.Str.{bytes_eq}
-use Rattle.mps_base.specs.Sorts.{same_sort}
 use Rattle.mps_base.specs.declared.value.Sort.{Sort}
 use Rattle.mps_global.specs.Global as global
 use Rattle.mps_global.specs.Global.{GlobalType}
 use Rattle.mps_local.specs.Local.{LocalType, Branches, End, Var, Rec, Send, Recv, Select, Branch, NoMore, More}
-
-infixl 10 ◌>>=◌
-abbrev pub ◌>>=◌ : {A B : Type 0} → Option A → (A → Option B) → Option B
-o >>= f = option_and_then f o
+use Rattle.mps_local.specs.Merged.{◌>>=◌, merged}
+use Rattle.mps_local.specs.declared.merging.Merging.{Merging}
 
 -- the place of the name in the list of roles, or how many they are where it is none of them
 abbrev pub place_of : List (List ℕ) → List ℕ → ℕ
@@ -52,65 +49,36 @@ abbrev mutual
 abbrev pub is_idle : (roles : List (List ℕ)) (role : ℕ) (name : List ℕ) → GlobalType → Bool
 is_idle roles role name body = not (occurs roles role body) && is_closed [] (global.Rec name body)
 
-abbrev mutual
-  -- whether two types are the same tree. That this is equality is the law same_is_equality
-  pub same : LocalType → LocalType → Bool
-  same End End = true
-  same (Var name) (Var other) = bytes_eq name other
-  same (Rec name body) (Rec other rest) = bytes_eq name other && same body rest
-  same (Send peer sort next) (Send from of rest) = peer == from && same_sort sort of && same next rest
-  same (Recv peer sort next) (Recv from of rest) = peer == from && same_sort sort of && same next rest
-  same (Select peer branches) (Select from rest) = peer == from && same_branches branches rest
-  same (Branch peer branches) (Branch from rest) = peer == from && same_branches branches rest
-  same t u = false
-
-  -- whether two lists of branches are
-  pub same_branches : Branches → Branches → Bool
-  same_branches NoMore NoMore = true
-  same_branches (More label next others) (More other rest more) =
-      bytes_eq label other && same next rest && same_branches others more
-  same_branches b c = false
-
--- whether each branch goes on with that type
-abbrev pub go_on_with : LocalType → Branches → Bool
-go_on_with t NoMore = true
-go_on_with t (More label next others) = same next t && go_on_with t others
-
--- the one type that each branch goes on with, as the law merging_is_equality says
-abbrev pub merged : Branches → Option LocalType
-merged NoMore = None
-merged (More label next others) = if go_on_with next others then Some next else None
-
 -- what a role does in a message and then: its sender has an output, its receiver an input, each other role nothing
 abbrev pub with_message : (role sender receiver : ℕ) (sort : Sort) (rest : LocalType) → LocalType
 with_message role sender receiver sort rest =
     if role == sender then Send receiver sort rest
     else (if role == receiver then Recv sender sort rest else rest)
 
--- what a role does in a choice: its sender chooses, its receiver picks, each other role does the same in every branch
-abbrev pub with_choice : (role sender receiver : ℕ) → Branches → Option LocalType
-with_choice role sender receiver branches =
+-- what a role does in a choice: its sender chooses, its receiver picks, each other role does what stands for every branch
+abbrev pub with_choice : (merging : Merging) (role sender receiver : ℕ) → Branches → Option LocalType
+with_choice merging role sender receiver branches =
     if role == sender then Some (Select receiver branches)
-    else (if role == receiver then Some (Branch sender branches) else merged branches)
+    else (if role == receiver then Some (Branch sender branches) else merged merging branches)
 
 abbrev mutual
-  -- what a role does in a global type; nothing where branches that it has to merge differ
-  pub projection : (roles : List (List ℕ)) (role : ℕ) → GlobalType → Option LocalType
-  projection roles role global.End = Some End
-  projection roles role (global.Var name) = Some (Var name)
-  projection roles role (global.Rec name body) =
-      if is_idle roles role name body then Some End else option_map (Rec name) (projection roles role body)
-  projection roles role (global.Message sender receiver sort next) =
-      option_map (with_message role (place_of roles sender) (place_of roles receiver) sort) (projection roles role next)
-  projection roles role (global.Choice sender receiver branches) =
-      projections roles role branches >>= with_choice role (place_of roles sender) (place_of roles receiver)
+  -- what a role does in a global type; nothing where branches that it has to merge can't be merged
+  pub projection : (merging : Merging) (roles : List (List ℕ)) (role : ℕ) → GlobalType → Option LocalType
+  projection merging roles role global.End = Some End
+  projection merging roles role (global.Var name) = Some (Var name)
+  projection merging roles role (global.Rec name body) =
+      if is_idle roles role name body then Some End else option_map (Rec name) (projection merging roles role body)
+  projection merging roles role (global.Message sender receiver sort next) =
+      option_map (with_message role (place_of roles sender) (place_of roles receiver) sort) (projection merging roles role next)
+  projection merging roles role (global.Choice sender receiver branches) =
+      projections merging roles role branches >>= with_choice merging role (place_of roles sender) (place_of roles receiver)
 
   -- the same of each branch
-  pub projections : (roles : List (List ℕ)) (role : ℕ) → global.Branches → Option Branches
-  projections roles role global.NoMore = Some NoMore
-  projections roles role (global.More label next others) = do
-    t ← projection roles role next
-    ts ← projections roles role others
+  pub projections : (merging : Merging) (roles : List (List ℕ)) (role : ℕ) → global.Branches → Option Branches
+  projections merging roles role global.NoMore = Some NoMore
+  projections merging roles role (global.More label next others) = do
+    t ← projection merging roles role next
+    ts ← projections merging roles role others
     Some (More label t ts)
 
 abbrev mutual
@@ -157,7 +125,7 @@ is_undefined None = true
 is_undefined (Some t) = false
 
 -- the number of the first choice of the list in which the role has no projection
-abbrev pub first_unmerged : (roles : List (List ℕ)) (role : ℕ) → List Numbered → Option ℕ
-first_unmerged roles role [] = None
-first_unmerged roles role (c ∷ cs) =
-    if is_undefined (projection roles role c.choice) then Some c.number else first_unmerged roles role cs
+abbrev pub first_unmerged : (merging : Merging) (roles : List (List ℕ)) (role : ℕ) → List Numbered → Option ℕ
+first_unmerged merging roles role [] = None
+first_unmerged merging roles role (c ∷ cs) =
+    if is_undefined (projection merging roles role c.choice) then Some c.number else first_unmerged merging roles role cs

@@ -1,7 +1,7 @@
 //! When two local types are the same.
 ghost use Rattle.std.specs.Prelude.{◌≡◌};
 ghost use Rattle.mps_local.specs.Local.{plain, plain_branches};
-ghost use Rattle.mps_local.specs.Projection.{same, same_branches};
+ghost use Rattle.mps_local.specs.Merged.{same, same_branches};
 
 use crate::{Branches, Local};
 

@@ -2,11 +2,12 @@
 ghost use Rattle.std.specs.Prelude.{◌≡◌, codes, [], ◌∷◌, Some, None};
 ghost use Rattle.mps_base.specs.declared.value.Sort.TheVariants.{Int, Text};
 ghost use Rattle.mps_global.specs.Global as global;
-ghost use Rattle.mps_global.specs.Global.{End as over};
+ghost use Rattle.mps_global.specs.Global.{End as over, Choice};
 ghost use Rattle.mps_local.specs.Local.{End, Var, Rec, Send, Recv, Select, Branch, NoMore, More};
 ghost use Rattle.mps_local.specs.Actions.{Ends, Sends, Receives, Chooses, Picks, head, type_left};
-ghost use Rattle.mps_local.specs.Examples.{a, b, c, at_a, at_b, at_c, Does, CantMergeFirst};
-ghost use Rattle.mps_local.specs.Examples.{chosen, int_to, bool_to, only, in_loops, outer, inner};
+ghost use Rattle.mps_local.specs.Examples.{a, b, c, at_a, at_b, at_c, Does, CantMergeFirst, MergesFully};
+ghost use Rattle.mps_local.specs.Examples.{chosen, chosen_of_three, int_to, bool_to, only, one_of, told, counted};
+ghost use Rattle.mps_local.specs.Examples.{counted_labels, rounds, in_loops, outer, inner};
 ghost use Rattle.mps_local.specs.Examples.{relay, ok_or_no, loops, ping, ping_pong};
 ghost use Rattle.mps_local.specs.Examples.{go_or_stop, asking, asked, turns, inner_turn};
 ghost use Rattle.mps_local.specs.Unfolding.{unfolded};
@@ -36,7 +37,8 @@ pub fn worked_projections()
     ensures peer_alone { CantMergeFirst (chosen (int_to a c over) (int_to b c over)) }
     ensures peer_of_a_choice_alone { CantMergeFirst
         (chosen (only a c (codes "x")) (only b c (codes "x"))) }
-    ensures label_alone { CantMergeFirst (chosen (only a c (codes "x")) (only a c (codes "y"))) }
+    ensures label_chosen_alone { CantMergeFirst
+        (chosen (only c a (codes "x")) (only c a (codes "y"))) }
     ensures variable_alone { CantMergeFirst
         (in_loops (chosen (int_to a c outer) (int_to a c inner))) }
     ensures name_of_a_loop_alone { CantMergeFirst (chosen
@@ -45,6 +47,42 @@ pub fn worked_projections()
     ensures kind_of_a_choice_alone { CantMergeFirst
         (chosen (only a c (codes "x")) (only c a (codes "x"))) }
     ensures ending_alone { CantMergeFirst (chosen (int_to a c over) over) }
+    // By full merging a label of its own tells it of the branch.
+    ensures label_alone { MergesFully (chosen (only a c (codes "x")) (only a c (codes "y")))
+        (Branch at_a (More (codes "x") End (More (codes "y") End NoMore))) }
+    ensures what_follows_a_label { MergesFully
+        (chosen (told a c (codes "x") (only b c (codes "y")))
+        (told a c (codes "x") (only b c (codes "z"))))
+        (Branch at_a (More (codes "x")
+        (Branch at_b (More (codes "y") End (More (codes "z") End NoMore))) NoMore)) }
+    // The labels of the first, in their order, and then those that the others have besides.
+    ensures labels_in_order { MergesFully
+        (chosen (one_of a c (codes "y") (codes "x")) (one_of a c (codes "w") (codes "x")))
+        (Branch at_a (More (codes "y") End (More (codes "x") End (More (codes "w") End NoMore)))) }
+    ensures three_branches { MergesFully (chosen_of_three (only a c (codes "x"))
+        (only a c (codes "z")) (one_of a c (codes "x") (codes "y")))
+        (Branch at_a (More (codes "x") End (More (codes "z") End (More (codes "y") End NoMore)))) }
+    ensures sixteen_labels { MergesFully
+        (chosen (Choice a c (counted 8 0)) (Choice a c (counted 8 8)))
+        (Branch at_a (counted_labels 16 0)) }
+    ensures seventeen_labels { CantMergeFirst
+        (chosen (Choice a c (counted 8 0)) (Choice a c (counted 9 8))) }
+    // What follows is merged in loops and after choices of its own too, if these have the same labels in the same order.
+    ensures in_a_loop { MergesFully
+        (chosen (global.Rec (codes "X") (told a c (codes "x") outer))
+        (global.Rec (codes "X") (told a c (codes "y") outer)))
+        (Rec (codes "X") (Branch at_a (More (codes "x") (Var (codes "X"))
+        (More (codes "y") (Var (codes "X")) NoMore)))) }
+    ensures after_its_own_choice { MergesFully
+        (chosen (told c a (codes "x") (only a c (codes "y")))
+        (told c a (codes "x") (only a c (codes "z"))))
+        (Select at_a (More (codes "x")
+        (Branch at_a (More (codes "y") End (More (codes "z") End NoMore))) NoMore)) }
+    ensures order_of_choices { CantMergeFirst (chosen
+        (one_of c a (codes "x") (codes "y")) (one_of c a (codes "y") (codes "x"))) }
+    ensures a_loop_of_three_ends { MergesFully rounds
+        (Rec (codes "X") (Branch at_a (More (codes "more") (Send at_a Int (Var (codes "X")))
+        (More (codes "stop") End NoMore)))) }
 {}
 
 /// What short types allow first and what follows it, as worked out by hand: tests of the definition of unfolding,

@@ -12,6 +12,7 @@ ghost use Rattle.mps_local.specs.Projection.{projection};
 ghost use Rattle.mps_local.specs.LocalFaults.{places, branch_places};
 ghost use Rattle.mps_local.specs.LocalFaults.{label_tests, variable_tests, rec_tests, node_tests, fault_at};
 ghost use Rattle.mps_local.specs.LocalFaults.{local_fault_of};
+ghost use Rattle.mps_local.specs.declared.merging.Merging.{Merging};
 ghost use Rattle.mps_local.specs.declared.faults.LocalFault.{LocalFault as Fault};
 
 use crate::{Branches, Local};
@@ -98,8 +99,8 @@ pub fn local_size_laws()
 /// A law: the projection of a protocol without faults to a role, where there is one, has no fault as a local type. So
 /// it needs no check of its own.
 pub fn projections_have_no_fault()
-    ensures { (roles : List (List ℕ)) (role : ℕ) (tree : GlobalType) (t : LocalType)
-        → fault_of roles tree ≡ None → projection roles role tree ≡ Some t
+    ensures { (merging : Merging) (roles : List (List ℕ)) (role : ℕ) (tree : GlobalType) (t : LocalType)
+        → fault_of roles tree ≡ None → projection merging roles role tree ≡ Some t
         → local_fault_of t ≡ None }
 {}
 
@@ -290,9 +291,9 @@ fn has_label(branches: &Branches, label: &Name) -> bool
     }
 }
 
-// Whether there are more branches than `limit`. It looks at no more than `limit` + 1 of them, so a long list costs no
-// more.
-fn has_more_than(branches: &Branches, limit: usize) -> bool
+/// Whether there are more branches than `limit`. It looks at no more than `limit` + 1 of them, so a long list costs no
+/// more.
+pub(crate) fn has_more_than(branches: &Branches, limit: usize) -> bool
     ensures { result ≡ nat_lt limit (length (labels (plain_branches branches.now))) }
 {
     match branches {

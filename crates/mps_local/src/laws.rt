@@ -3,9 +3,13 @@ ghost use Rattle.std.specs.Prelude.{◌≡◌, ◌≢◌, ◌↔◌, ℕ, List, 
 ghost use Rattle.std.specs.List.{AllByRecursion};
 ghost use Rattle.mps_base.specs.RoleLists.{AreDistinct};
 ghost use Rattle.mps_global.specs.Global.{GlobalType};
+ghost use Rattle.mps_global.specs.Faults.{fault_of};
 ghost use Rattle.mps_local.specs.Local.{LocalType, Branches};
 ghost use Rattle.mps_local.specs.Actions.{branch_at, labels, nexts};
-ghost use Rattle.mps_local.specs.Projection.{same, same_branches, merged, projection, examined, first_unmerged};
+ghost use Rattle.mps_local.specs.Merged.{same, same_branches, merged};
+ghost use Rattle.mps_local.specs.Projection.{projection, examined, first_unmerged};
+ghost use Rattle.mps_local.specs.declared.merging.Merging.{Merging as MergingKind};
+ghost use Rattle.mps_local.specs.declared.merging.Merging.TheVariants.{Plain, Full};
 
 /// A law: each label has its type at the same place; where no label stands twice, that is what follows the label. So a
 /// branch may be found by the place of its label.
@@ -25,19 +29,27 @@ pub fn same_is_equality()
     ensures branches { (b c : Branches) → (same_branches b c ≡ true) ↔ (b ≡ c) }
 {}
 
-/// A law: branches merge to a type exactly where there is at least one, and each goes on with that type: plain merging.
+/// A law: by plain merging branches merge to a type exactly where there is at least one, and each goes on with that type.
 pub fn merging_is_equality()
-    ensures merged { (b : Branches) (t : LocalType) → (merged b ≡ Some t)
+    ensures merged { (b : Branches) (t : LocalType) → (merged Plain b ≡ Some t)
         ↔ ((nexts b ≢ []) × AllByRecursion (λ u. u ≡ t) (nexts b)) }
 {}
 
 /// A law: where a role has no projection a choice is named, and only there, whatever number the first choice has. So
 /// each refusal of `project` has a place.
 pub fn unmerged_is_named()
-    ensures named { (roles : List (List ℕ)) (role number : ℕ) (tree : GlobalType)
-        → projection roles role tree ≡ None
-        → IsSome (first_unmerged roles role (examined roles role number tree)) }
-    ensures none { (roles : List (List ℕ)) (role number : ℕ) (tree : GlobalType) (t : LocalType)
-        → projection roles role tree ≡ Some t
-        → first_unmerged roles role (examined roles role number tree) ≡ None }
+    ensures named { (merging : MergingKind) (roles : List (List ℕ)) (role number : ℕ)
+        (tree : GlobalType) → projection merging roles role tree ≡ None
+        → IsSome (first_unmerged merging roles role (examined roles role number tree)) }
+    ensures none { (merging : MergingKind) (roles : List (List ℕ)) (role number : ℕ)
+        (tree : GlobalType) (t : LocalType) → projection merging roles role tree ≡ Some t
+        → first_unmerged merging roles role (examined roles role number tree) ≡ None }
+{}
+
+/// A law: where plain merging gives a projection, full merging gives the same one. So a protocol that needs no full
+/// merging has the same sessions by it.
+pub fn full_merging_goes_further()
+    ensures { (roles : List (List ℕ)) (role : ℕ) (tree : GlobalType) (t : LocalType)
+        → fault_of roles tree ≡ None → projection Plain roles role tree ≡ Some t
+        → projection Full roles role tree ≡ Some t }
 {}

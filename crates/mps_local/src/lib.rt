@@ -20,6 +20,7 @@ pub mod examples;
 pub mod faults;
 pub mod laws;
 mod loops;
+mod merging;
 pub mod peers;
 pub mod projection;
 mod walking;
@@ -30,9 +31,15 @@ pub use examples::{worked_actions, worked_projections};
 pub use faults::{
     LocalFault, first_fault, local_fault_laws, local_size_laws, projections_have_no_fault,
 };
-pub use laws::{labels_lead, merging_is_equality, same_is_equality, unmerged_is_named};
+pub use laws::{
+    full_merging_goes_further, labels_lead, merging_is_equality, same_is_equality,
+    unmerged_is_named,
+};
+pub use merging::Merging;
 use mps_base::{Name, Role, Sort, VarName};
-pub use projection::{ProjectFault, project, project_all, projection_laws};
+pub use projection::{
+    ProjectFault, project, project_all, project_all_by, project_by, projection_laws,
+};
 use std::mem;
 pub use walking::Arms;
 pub use writing::write_local;

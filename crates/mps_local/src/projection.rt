@@ -6,15 +6,17 @@ ghost use Rattle.std.specs.Str.{bytes_eq};
 ghost use Rattle.mps_global.specs.Global.{GlobalType, plain as global_type, plain_branches as global_branches};
 ghost use Rattle.mps_global.specs.Faults.{node_count as global_nodes, depth as global_depth, fault_of};
 ghost use Rattle.mps_local.specs.Local.{LocalType, plain, plain_branches};
-ghost use Rattle.mps_local.specs.Projection.{place_of, same};
-ghost use Rattle.mps_local.specs.Projection.{go_on_with, merged, with_message, with_choice, projection, projections};
+ghost use Rattle.mps_local.specs.Merged.{IsUnmergeable};
+ghost use Rattle.mps_local.specs.Projection.{place_of, with_message, with_choice, projection, projections};
 ghost use Rattle.mps_local.specs.Projection.{choice_count, branch_choices, examined, examined_in, first_unmerged};
 ghost use Rattle.mps_local.specs.Shape.{node_count, depth, AllPeers, IsOtherRole};
 ghost use Rattle.mps_local.specs.Outcome.{IsUnmerged, AreProjections, AreNotAll};
 ghost use Rattle.mps_local.specs.Private.Outcome.{IsDone, AreDone, AreUnmerged};
+ghost use Rattle.mps_local.specs.declared.merging.Merging.{Merging as MergingKind};
+ghost use Rattle.mps_local.specs.declared.merging.Merging.TheVariants.{Plain};
 
-use crate::equality::same;
 use crate::loops::{choice_count, is_idle};
+use crate::merging::{MergeFault, Merging, merged};
 use crate::{Branches, Local};
 use mps_base::{Name, Role, Sort};
 use mps_global::{Global, Protocol};
@@ -24,7 +26,7 @@ use thiserror::Error;
 /// Why a protocol is not projected.
 #[derive(Clone, Copy, Debug, PartialEq, Eq, Error)]
 pub enum ProjectFault {
-    /// The role does not do the same in each branch of a choice of others. Choices are counted in
+    /// No type of the role stands for each branch of a choice of others. Choices are counted in
     /// preorder, from 0.
     #[error("the branches of choice {choice} differ for a role that takes no part in it")]
     Unmergeable { role: Role, choice: usize },
@@ -54,60 +56,103 @@ impl<T: Drop> From<AllocFailed<T>> for ProjectFault {
     }
 }
 
-/// The projection of a protocol without faults to the role (Honda, Yoshida, Carbone 2008), with plain merging: the
+/// The projection of a protocol without faults to the role (Honda, Yoshida, Carbone 2008), by plain merging: the
 /// branches of a choice of others have to project to equal types. `Unmergeable` names the role and the first choice
 /// where they don't. The stack grows with the levels of the tree, of which there are at most 64.
 pub fn project(alloc: alloc::Global, protocol: &Protocol, role: Role) -> Result<Local, ProjectFault>
     requires well_formed { fault_of protocol.now.roles.items (global_type protocol.now.body) ≡ None }
     requires in_session { role < length protocol.now.roles.items }
     ensures ok { IfOk result
-        (λ t. projection protocol.now.roles.items role (global_type protocol.now.body)
+        (λ t. projection Plain protocol.now.roles.items role (global_type protocol.now.body)
         ≡ Some (plain t)) }
     ensures peers { IfOk result
         (λ t. AllPeers (λ peer. peer < length protocol.now.roles.items) (plain t)) }
     // It is refused only where there is no projection or no memory.
     ensures fault { IfErr result
-        (IsUnmerged protocol.now.roles.items role 0 (global_type protocol.now.body)) }
+        (IsUnmerged Plain protocol.now.roles.items role 0 (global_type protocol.now.body)) }
+{
+    project_by(alloc, Merging::Plain, protocol, role)
+}
+
+/// `project` by the merging that is given. By full merging the branches of a choice of others have to project to types
+/// that one type stands for, which picks among the labels of all (Deniélou, Yoshida, ESOP 2012).
+pub fn project_by(
+    alloc: alloc::Global,
+    merging: Merging,
+    protocol: &Protocol,
+    role: Role,
+) -> Result<Local, ProjectFault>
+    requires well_formed { fault_of protocol.now.roles.items (global_type protocol.now.body) ≡ None }
+    requires in_session { role < length protocol.now.roles.items }
+    ensures ok { IfOk result
+        (λ t. projection merging protocol.now.roles.items role (global_type protocol.now.body)
+        ≡ Some (plain t)) }
+    ensures peers { IfOk result
+        (λ t. AllPeers (λ peer. peer < length protocol.now.roles.items) (plain t)) }
+    // It is refused only where there is no projection or no memory.
+    ensures fault { IfErr result
+        (IsUnmerged merging protocol.now.roles.items role 0 (global_type protocol.now.body)) }
 {
     // how many choices the protocol has isn't needed
-    let (local, _) = project_tree(alloc, &protocol.roles, &protocol.body, role, 0)?;
+    let (local, _) = project_tree(alloc, merging, &protocol.roles, &protocol.body, role, 0)?;
     Ok(local)
 }
 
-/// The projections of a protocol without faults to all of its roles, in their order. The first role without a
-/// projection is named, with the choice. After an error the types made so far are dropped.
+/// The projections of a protocol without faults to all of its roles, in their order, by plain merging. The first role
+/// without a projection is named, with the choice. After an error the types made so far are dropped.
 pub fn project_all(alloc: alloc::Global, protocol: &Protocol) -> Result<Vec<Local>, ProjectFault>
     requires { fault_of protocol.now.roles.items (global_type protocol.now.body) ≡ None }
-    ensures ok { IfOk result (λ types. AreProjections
+    ensures ok { IfOk result (λ types. AreProjections Plain
         protocol.now.roles.items (global_type protocol.now.body) (map plain types.items)) }
     ensures peers { IfOk result (λ types. AllByRecursion
         (AllPeers (λ peer. peer < length protocol.now.roles.items)) (map plain types.items)) }
     ensures fault { IfErr result
-        (AreNotAll protocol.now.roles.items (global_type protocol.now.body)) }
+        (AreNotAll Plain protocol.now.roles.items (global_type protocol.now.body)) }
+{
+    project_all_by(alloc, Merging::Plain, protocol)
+}
+
+/// `project_all` by the merging that is given.
+pub fn project_all_by(
+    alloc: alloc::Global,
+    merging: Merging,
+    protocol: &Protocol,
+) -> Result<Vec<Local>, ProjectFault>
+    requires { fault_of protocol.now.roles.items (global_type protocol.now.body) ≡ None }
+    ensures ok { IfOk result (λ types. AreProjections merging
+        protocol.now.roles.items (global_type protocol.now.body) (map plain types.items)) }
+    ensures peers { IfOk result (λ types. AllByRecursion
+        (AllPeers (λ peer. peer < length protocol.now.roles.items)) (map plain types.items)) }
+    ensures fault { IfErr result
+        (AreNotAll merging protocol.now.roles.items (global_type protocol.now.body)) }
 {
     let mut types = Vec::with_capacity(alloc, protocol.roles.len())?;
     for place in 0..protocol.roles.len() {
         // the place is below 8, as a protocol without faults has at most 8 roles
-        let t = project(alloc, protocol, Role::new(place as u8))?;
+        let t = project_by(alloc, merging, protocol, Role::new(place as u8))?;
         types.push(t)?;
     }
     Ok(types)
 }
 
-/// A law: the local types of a protocol without faults name other roles of the protocol as peers, and have no more
-/// nodes and no more levels than the global type.
+/// A law: the local types of a protocol without faults, by either kind of merging, name other roles of the protocol as
+/// peers, and have no more nodes and no more levels than the global type.
 pub fn projection_laws()
-    ensures peers { (roles : List (List ℕ)) (role : ℕ) (tree : GlobalType) (t : LocalType)
-        → fault_of roles tree ≡ None → projection roles role tree ≡ Some t
+    ensures peers { (merging : MergingKind) (roles : List (List ℕ)) (role : ℕ)
+        (tree : GlobalType) (t : LocalType)
+        → fault_of roles tree ≡ None → projection merging roles role tree ≡ Some t
         → AllPeers (IsOtherRole (length roles) role) t }
-    ensures no_larger { (roles : List (List ℕ)) (role : ℕ) (tree : GlobalType) (t : LocalType)
-        → fault_of roles tree ≡ None → projection roles role tree ≡ Some t
+    ensures no_larger { (merging : MergingKind) (roles : List (List ℕ)) (role : ℕ)
+        (tree : GlobalType) (t : LocalType)
+        → fault_of roles tree ≡ None → projection merging roles role tree ≡ Some t
         → node_count t ≤ global_nodes tree }
-    ensures no_deeper { (roles : List (List ℕ)) (role : ℕ) (tree : GlobalType) (t : LocalType)
-        → fault_of roles tree ≡ None → projection roles role tree ≡ Some t
+    ensures no_deeper { (merging : MergingKind) (roles : List (List ℕ)) (role : ℕ)
+        (tree : GlobalType) (t : LocalType)
+        → fault_of roles tree ≡ None → projection merging roles role tree ≡ Some t
         → depth t ≤ global_depth tree }
-    ensures limits { (roles : List (List ℕ)) (role : ℕ) (tree : GlobalType) (t : LocalType)
-        → fault_of roles tree ≡ None → projection roles role tree ≡ Some t
+    ensures limits { (merging : MergingKind) (roles : List (List ℕ)) (role : ℕ)
+        (tree : GlobalType) (t : LocalType)
+        → fault_of roles tree ≡ None → projection merging roles role tree ≡ Some t
         → (node_count t ≤ 256) × (depth t ≤ 64) }
 {}
 
@@ -117,6 +162,7 @@ pub fn projection_laws()
 #[tactic(auto, using(crate::proofs::Examined::message_done, crate::proofs::Examined::choice_fails_in_a_branch, crate::proofs::Examined::choice_done, crate::proofs::Examined::choice_fails))]
 fn project_tree(
     alloc: alloc::Global,
+    merging: Merging,
     roles: &[Name],
     tree: &Global,
     role: Role,
@@ -125,8 +171,8 @@ fn project_tree(
     requires few { length roles.now ≤ 8 }
     requires within { number + choice_count (global_type tree.now) ≤ 256 }
     ensures ok { IfOk result
-        (λ r. IsDone roles.now role number (global_type tree.now) (plain r.0) r.1) }
-    ensures fault { IfErr result (IsUnmerged roles.now role number (global_type tree.now)) }
+        (λ r. IsDone merging roles.now role number (global_type tree.now) (plain r.0) r.1) }
+    ensures fault { IfErr result (IsUnmerged merging roles.now role number (global_type tree.now)) }
 {
     match tree {
         Global::End => Ok((Local::End, number)),
@@ -136,7 +182,7 @@ fn project_tree(
                 // its choices are counted, and none is looked at
                 return Ok((Local::End, number + choice_count(body)));
             }
-            let (rest, after) = project_tree(alloc, &*roles, body, role, number)?;
+            let (rest, after) = project_tree(alloc, merging, &*roles, body, role, number)?;
             let local = Local::rec(alloc, *name, rest)?;
             Ok((local, after))
         }
@@ -146,7 +192,7 @@ fn project_tree(
             sort,
             next,
         } => {
-            let (rest, after) = project_tree(alloc, &*roles, next, role, number)?;
+            let (rest, after) = project_tree(alloc, merging, &*roles, next, role, number)?;
             let (from, to) = (role_of(&*roles, sender), role_of(&*roles, receiver));
             let local = with_message(alloc, role, from, to, *sort, rest)?;
             Ok((local, after))
@@ -156,11 +202,19 @@ fn project_tree(
             receiver,
             branches,
         } => {
-            let (rest, after) = project_branches(alloc, &*roles, branches, role, number + 1)?;
+            let (rest, after) = project_branches(
+                alloc,
+                merging,
+                &*roles,
+                branches,
+                role,
+                number + 1,
+            )?;
             let (from, to) = (role_of(&*roles, sender), role_of(&*roles, receiver));
-            match with_choice(role, from, to, rest) {
-                Some(local) => Ok((local, after)),
-                None => Err(ProjectFault::Unmergeable {
+            match with_choice(alloc, merging, role, from, to, rest) {
+                Ok(local) => Ok((local, after)),
+                Err(MergeFault::Memory) => Err(ProjectFault::Memory),
+                Err(MergeFault::Unmergeable) => Err(ProjectFault::Unmergeable {
                     role,
                     choice: number,
                 }),
@@ -175,6 +229,7 @@ fn project_tree(
 #[tactic(auto, using(crate::proofs::Examined::first_fails, crate::proofs::Examined::others_fail, crate::proofs::Examined::branches_done))]
 fn project_branches(
     alloc: alloc::Global,
+    merging: Merging,
     roles: &[Name],
     branches: &mps_global::Branches,
     role: Role,
@@ -183,10 +238,10 @@ fn project_branches(
     requires few { length roles.now ≤ 8 }
     requires within { number + branch_choices (global_branches branches.now) ≤ 256 }
     ensures ok { IfOk result
-        (λ r. AreDone roles.now role number (global_branches branches.now)
+        (λ r. AreDone merging roles.now role number (global_branches branches.now)
         (plain_branches r.0) r.1) }
     ensures fault { IfErr result
-        (AreUnmerged roles.now role number (global_branches branches.now)) }
+        (AreUnmerged merging roles.now role number (global_branches branches.now)) }
 {
     match branches {
         mps_global::Branches::NoMore => Ok((Branches::NoMore, number)),
@@ -195,8 +250,8 @@ fn project_branches(
             next,
             others,
         } => {
-            let (first, between) = project_tree(alloc, &*roles, next, role, number)?;
-            let (rest, after) = project_branches(alloc, &*roles, others, role, between)?;
+            let (first, between) = project_tree(alloc, merging, &*roles, next, role, number)?;
+            let (rest, after) = project_branches(alloc, merging, &*roles, others, role, between)?;
             let more = Branches::more(alloc, *label, first, rest)?;
             Ok((more, after))
         }
@@ -225,52 +280,33 @@ fn with_message(
 }
 
 // The role's type for a choice of these projected branches: a selection for its sender, a branching for its receiver,
-// and for each other role the one type that all branches have; `None` where theirs differ. It does not allocate.
-fn with_choice(role: Role, sender: Role, receiver: Role, branches: Branches) -> Option<Local>
-    ensures { MatchOption result
-        (with_choice role sender receiver (plain_branches branches) ≡ None)
-        (λ t. with_choice role sender receiver (plain_branches branches) ≡ Some (plain t)) }
+// and for each other role the one type that stands for all branches. The branches are dropped with an error.
+fn with_choice(
+    alloc: alloc::Global,
+    merging: Merging,
+    role: Role,
+    sender: Role,
+    receiver: Role,
+    branches: Branches,
+) -> Result<Local, MergeFault>
+    ensures ok { IfOk result (λ t. with_choice merging role sender receiver
+        (plain_branches branches) ≡ Some (plain t)) }
+    ensures fault { IfErr result
+        (IsUnmergeable (with_choice merging role sender receiver (plain_branches branches))) }
 {
     if role.is(sender) {
-        return Some(Local::Select {
+        return Ok(Local::Select {
             peer: receiver,
             branches,
         });
     }
     if role.is(receiver) {
-        return Some(Local::Branch {
+        return Ok(Local::Branch {
             peer: sender,
             branches,
         });
     }
-    merged(branches)
-}
-
-// Plain merging: the one type that follows each label, or `None` where two differ or there is no branch. The other
-// copies are dropped. It does not allocate.
-fn merged(branches: Branches) -> Option<Local>
-    ensures { MatchOption result
-        (merged (plain_branches branches) ≡ None)
-        (λ t. merged (plain_branches branches) ≡ Some (plain t)) }
-{
-    let (_, next, others) = branches.first()?;
-    let first = Box::into_inner(next);
-    if go_on_with(&first, &others) {
-        Some(first)
-    } else {
-        None
-    }
-}
-
-// Whether each branch goes on with a type equal to `first`, as a tree. The branches after the first that differs aren't
-// looked at.
-fn go_on_with(first: &Local, branches: &Branches) -> bool
-    ensures { result ≡ go_on_with (plain first.now) (plain_branches branches.now) }
-{
-    match branches {
-        Branches::NoMore => true,
-        Branches::More { next, others, .. } => same(next, first) && go_on_with(first, others),
-    }
+    merged(alloc, merging, branches)
 }
 
 /// The role of that name, which is its place in the list. Where no role has the name it is the place after the last,

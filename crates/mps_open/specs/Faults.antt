@@ -5,6 +5,7 @@ use Rattle.mps_global.specs.Faults.{fault_of}
 use Rattle.mps_global.specs.declared.faults.GlobalFault.{GlobalFault}
 use Rattle.mps_global.specs.declared.faults.GlobalFault.TheVariants as of_protocols
 use Rattle.mps_local.specs.Outcome.{IsFirstUnmerged}
+use Rattle.mps_local.specs.declared.merging.Merging.{Merging}
 use Rattle.mps_text.specs.Faults.{IsFirstFault}
 use Rattle.mps_text.specs.declared.fault.TextKind.{TextKind}
 use Rattle.mps_text.specs.declared.fault.TextKind.TheVariants as texts
@@ -17,29 +18,29 @@ abbrev pub IsTextFault : List ℕ → ℕ → TextKind → Type 0
 IsTextFault text at texts.Memory = ⊥
 IsTextFault text at kind = IsFirstFault text at kind
 
--- why a protocol has no opening: its first fault; or it has none, and a role, the first, has no projection, or memory ran
--- out; never a fault of a text
-abbrev pub GivesNoOpening : List (List ℕ) → GlobalType → Fault → Type 0
-GivesNoOpening roles tree (Text at kind) = ⊥
-GivesNoOpening roles tree (Protocol fault) = fault_of roles tree ≡ Some fault
-GivesNoOpening roles tree (Projection role name choice) =
-    (fault_of roles tree ≡ None) × IsFirstUnmerged roles tree role choice × (slice_get roles role ≡ Some name)
-GivesNoOpening roles tree Memory = fault_of roles tree ≡ None
+-- why a protocol has no opening by that kind of merging: its first fault; or it has none, and a role, the first, has no
+-- projection, or memory ran out; never a fault of a text
+abbrev pub GivesNoOpening : Merging → List (List ℕ) → GlobalType → Fault → Type 0
+GivesNoOpening merging roles tree (Text at kind) = ⊥
+GivesNoOpening merging roles tree (Protocol fault) = fault_of roles tree ≡ Some fault
+GivesNoOpening merging roles tree (Projection role name choice) =
+    (fault_of roles tree ≡ None) × IsFirstUnmerged merging roles tree role choice × (slice_get roles role ≡ Some name)
+GivesNoOpening merging roles tree Memory = fault_of roles tree ≡ None
 
 -- the text spells a protocol that has no opening
-pub record HasNoOpening (text : List ℕ) (fault : Fault) : Type 0 where
+pub record HasNoOpening (merging : Merging) (text : List ℕ) (fault : Fault) : Type 0 where
   pub roles : List (List ℕ)
   pub tree : GlobalType
   pub spelled : IsProtocolText text roles tree
-  pub why : GivesNoOpening roles tree fault
+  pub why : GivesNoOpening merging roles tree fault
 
 -- why a text gives no session: its first fault; the fault of the protocol that it spells, or its first role that has no
 -- projection, with the choice; or out of memory, where it is short enough
-abbrev pub GivesNoSession : List ℕ → Fault → Type 0
-GivesNoSession text (Text at kind) = IsTextFault text at kind
-GivesNoSession text (Protocol fault) = HasNoOpening text (Protocol fault)
-GivesNoSession text (Projection role name choice) = HasNoOpening text (Projection role name choice)
-GivesNoSession text Memory = length text ≤ 65536
+abbrev pub GivesNoSession : Merging → List ℕ → Fault → Type 0
+GivesNoSession merging text (Text at kind) = IsTextFault text at kind
+GivesNoSession merging text (Protocol fault) = HasNoOpening merging text (Protocol fault)
+GivesNoSession merging text (Projection role name choice) = HasNoOpening merging text (Projection role name choice)
+GivesNoSession merging text Memory = length text ≤ 65536
 
 -- why a text isn't read: its first fault, or out of memory, where it is short enough
 abbrev pub IsUnreadText : List ℕ → Fault → Type 0

@@ -21,7 +21,7 @@ pub enum Fault {
     /// The protocol has this fault, the first one.
     #[error("{0}")]
     Protocol(GlobalFault),
-    /// The role, the first such, doesn't do the same in each branch of that choice of others. Choices are counted in
+    /// The role, the first such, has no one type for the branches of that choice of others. Choices are counted in
     /// preorder, from 0.
     #[error("the branches of choice {choice} differ for role {}, which takes no part in it", role.index())]
     Projection {

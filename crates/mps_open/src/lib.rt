@@ -11,4 +11,5 @@ pub mod opening;
 
 pub use choice::choice_text;
 pub use fault::Fault;
-pub use opening::{Opening, open_text};
+pub use mps_local::Merging;
+pub use opening::{Opening, open_text, open_text_by};

@@ -2,6 +2,7 @@
 use Rattle.std.specs.Prelude.{ℕ, suc, List, [], ◌∷◌, ◌++◌, codes}
 use Rattle.mps_local.specs.Local.{LocalType}
 use Rattle.mps_local.specs.Text.{name_at, local_text}
+use Rattle.mps_local.specs.declared.merging.Merging.{Merging}
 use Rattle.mps_open.specs.Faults.{GivesNoSession}
 use Rattle.mps_open.specs.declared.fault.Fault.{Fault}
 use Rattle.mps_open.specs.declared.fault.Fault.TheVariants as opening
@@ -15,13 +16,14 @@ of_opening (opening.Protocol fault) = Protocol fault
 of_opening (opening.Projection role name choice) = Projection name choice
 of_opening opening.Memory = Memory
 
--- why a text gives no types, as the program tells it
-abbrev pub GivesNoTypes : List ℕ → ToolFault → Type 0
-GivesNoTypes text (Text at kind) = GivesNoSession text (opening.Text at kind)
-GivesNoTypes text (Protocol fault) = GivesNoSession text (opening.Protocol fault)
-GivesNoTypes text (Projection name choice) = (role : ℕ) × GivesNoSession text (opening.Projection role name choice)
-GivesNoTypes text Memory = GivesNoSession text opening.Memory
-GivesNoTypes text fault = ⊥
+-- why a text gives no types by that kind of merging, as the program tells it
+abbrev pub GivesNoTypes : Merging → List ℕ → ToolFault → Type 0
+GivesNoTypes merging text (Text at kind) = GivesNoSession merging text (opening.Text at kind)
+GivesNoTypes merging text (Protocol fault) = GivesNoSession merging text (opening.Protocol fault)
+GivesNoTypes merging text (Projection name choice) =
+    (role : ℕ) × GivesNoSession merging text (opening.Projection role name choice)
+GivesNoTypes merging text Memory = GivesNoSession merging text opening.Memory
+GivesNoTypes merging text fault = ⊥
 
 -- the line of the role at that place: its name, ` : `, and its type
 abbrev pub role_line : (roles : List (List ℕ)) (place : ℕ) → LocalType → List ℕ

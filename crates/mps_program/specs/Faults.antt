@@ -24,6 +24,7 @@ use Rattle.mps_program.specs.declared.faults.ToolFault.{ToolFault}
 use Rattle.mps_program.specs.declared.faults.ToolFault.TheVariants.{Usage, File, Text, Protocol, Projection, Open, Read}
 use Rattle.mps_program.specs.declared.faults.ToolFault.TheVariants.{Write, Turns, Bind, Accept, Lost, JournalFile}
 use Rattle.mps_program.specs.declared.faults.ToolFault.TheVariants.{JournalLine, JournalProtocol, JournalLost, JournalBroken, Memory}
+use Rattle.mps_words.specs.declared.command.ProtocolFile.{ProtocolFile}
 
 -- the word for a fault of a text
 abbrev pub text_word : TextKind → List ℕ
@@ -177,12 +178,13 @@ abbrev pub IsScriptFault : List ℕ → ToolFault → Type 0
 IsScriptFault script fault = IsFileFault script fault ⊎ IsBreak fault
 
 -- how the types of a protocol may fail to be had from this file: it can't be opened, or gives none
-abbrev pub IsLoadFault : List ℕ → ToolFault → Type 0
+abbrev pub IsLoadFault : ProtocolFile → ToolFault → Type 0
 IsLoadFault file fault =
-    IsFileFault file fault ⊎ ((given : Option (List ℕ)) × (left : Option (List ℕ)) × CantLoad given left fault)
+    IsFileFault file.name.now fault
+    ⊎ ((given : Option (List ℕ)) × (left : Option (List ℕ)) × CantLoad file.merging given left fault)
 
 -- how a run of these two files may fail: the first gives no types, or the script fails to be run
-abbrev pub IsRunFault : List ℕ → List ℕ → ToolFault → Type 0
+abbrev pub IsRunFault : ProtocolFile → List ℕ → ToolFault → Type 0
 IsRunFault file script fault = IsLoadFault file fault ⊎ IsScriptFault script fault
 
 -- how the scripts of these two files may fail to be compared: one fails to be run, or what is said of them can't be
@@ -191,11 +193,11 @@ abbrev pub IsScriptsFault : List ℕ → List ℕ → ToolFault → Type 0
 IsScriptsFault script other fault = IsScriptFault script fault ⊎ (IsScriptFault other fault ⊎ (fault ≡ Write))
 
 -- how a comparison of the scripts of two files may fail: the first gives no types, or the scripts fail to be compared
-abbrev pub IsCompareFault : List ℕ → List ℕ → List ℕ → ToolFault → Type 0
+abbrev pub IsCompareFault : ProtocolFile → List ℕ → List ℕ → ToolFault → Type 0
 IsCompareFault file script other fault = IsLoadFault file fault ⊎ IsScriptsFault script other fault
 
 -- how a check of this file may fail: it can't be opened, or its types can't be shown
-abbrev pub IsCheckFault : List ℕ → ToolFault → Type 0
+abbrev pub IsCheckFault : ProtocolFile → ToolFault → Type 0
 IsCheckFault file fault =
-    IsFileFault file fault ⊎ ((given : Option (List ℕ)) × (left : Option (List ℕ)) × (took : Option (List ℕ))
-    × (taken : Option (List ℕ)) × CantShow given left took taken fault)
+    IsFileFault file.name.now fault ⊎ ((given : Option (List ℕ)) × (left : Option (List ℕ)) × (took : Option (List ℕ))
+    × (taken : Option (List ℕ)) × CantShow file.merging given left took taken fault)

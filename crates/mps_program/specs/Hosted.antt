@@ -4,6 +4,7 @@ use Rattle.mps_program.specs.Faults.{IsLoadFault}
 use Rattle.mps_program.specs.Journals.{IsFolderFault}
 use Rattle.mps_program.specs.declared.faults.ToolFault.{ToolFault}
 use Rattle.mps_program.specs.declared.faults.ToolFault.TheVariants.{Write, Bind, Memory}
+use Rattle.mps_words.specs.declared.command.ProtocolFile.{ProtocolFile}
 
 -- how the folder that records the sessions may fail, if there is one
 abbrev pub IsClaimFault : Option (List ℕ) → ToolFault → Type 0
@@ -19,5 +20,5 @@ IsDoorFault Memory = ⊤
 IsDoorFault fault = ⊥
 
 -- how a host of this file may fail, whose sessions are recorded in this folder, if they are
-abbrev pub IsHostFault : List ℕ → Option (List ℕ) → ToolFault → Type 0
+abbrev pub IsHostFault : ProtocolFile → Option (List ℕ) → ToolFault → Type 0
 IsHostFault file folder fault = IsLoadFault file fault ⊎ (IsClaimFault folder fault ⊎ IsDoorFault fault)

@@ -12,6 +12,7 @@ use Rattle.mps_program.specs.Faults.{IsLoadFault}
 use Rattle.mps_program.specs.Journals.{IsSessionsFault, recorded_of}
 use Rattle.mps_program.specs.declared.faults.ToolFault.{ToolFault}
 use Rattle.mps_program.specs.declared.faults.ToolFault.TheVariants.{Write, Bind, Accept, JournalBroken, Lost, Memory}
+use Rattle.mps_words.specs.declared.command.ProtocolFile.{ProtocolFile}
 
 -- the port of a listener that was to have this one, where 0 is any that is free
 abbrev pub IsPortFor : (wanted port : ℕ) → Type 0
@@ -116,6 +117,6 @@ IsOutFault recorded first n fault = IsTellFault first n fault
 
 -- how a server of this file may fail, whose sessions are recorded in this folder, if they are: the file gives no types, the
 -- sessions fail to be had, or the server fails
-abbrev pub IsServeFault : List ℕ → Option (List ℕ) → (first n : ℕ) → ToolFault → Type 0
+abbrev pub IsServeFault : ProtocolFile → Option (List ℕ) → (first n : ℕ) → ToolFault → Type 0
 IsServeFault file folder first n fault =
     IsLoadFault file fault ⊎ (IsSessionsFault folder first n fault ⊎ IsOutFault (recorded_of folder n) first n fault)

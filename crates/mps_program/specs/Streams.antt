@@ -4,6 +4,7 @@ use Rattle.std.specs.Prelude.{◌≡◌, ◌≤◌, ℕ, ⊤, List, Option, leng
 use Rattle.std.specs.Io.KnownBytes.{Consumes, IsAtEnd}
 use Rattle.mps_global.specs.Global.{plain as global_type}
 use Rattle.mps_local.specs.Local.{LocalType, plain}
+use Rattle.mps_local.specs.declared.merging.Merging.{Merging}
 use Rattle.mps_open.specs.Texts.{AreTypesOf, IsProtocolText}
 use Rattle.mps_open.specs.declared.opening.Opening.{Opening}
 use Rattle.mps_program.specs.Check.{GivesNoTypes, role_lines}
@@ -18,36 +19,38 @@ pub record HasGiven (given left : Option (List ℕ)) (text : List ℕ) : Type 0 
   pub most : length text ≤ most_read
   pub whole : length text ≤ longest → IsAtEnd left
 
--- the source gave, to its end, a text with these types
-pub record HasLoaded (given left : Option (List ℕ)) (roles : List (List ℕ)) (types : List LocalType) : Type 0 where
+-- the source gave, to its end, a text with these types by that kind of merging
+pub record HasLoaded (merging : Merging) (given left : Option (List ℕ)) (roles : List (List ℕ)) (types : List LocalType) : Type 0 where
   pub text : List ℕ
   pub bytes : Consumes given left text
   pub over : IsAtEnd left
-  pub typed : AreTypesOf text roles types
+  pub typed : AreTypesOf merging text roles types
 
--- the source gave, to its end, the text of this opening
-pub record HasGivenOpening (given left : Option (List ℕ)) (opening : Opening) : Type 0 where
-  pub loaded : HasLoaded given left opening.roles (map plain opening.types.items)
+-- the source gave, to its end, the text of this opening, which is by that kind of merging
+pub record HasGivenOpening (merging : Merging) (given left : Option (List ℕ)) (opening : Opening) : Type 0 where
+  pub merging_is : opening.merging ≡ merging
+  pub loaded : HasLoaded merging given left opening.roles (map plain opening.types.items)
   pub read : IsProtocolText loaded.text opening.protocol.roles.items (global_type opening.protocol.body)
 
 -- some source gave it
-abbrev pub WasLoaded : Opening → Type 0
-WasLoaded opening = (given : Option (List ℕ)) × (left : Option (List ℕ)) × HasGivenOpening given left opening
+abbrev pub WasLoaded : Merging → Opening → Type 0
+WasLoaded merging opening =
+    (given : Option (List ℕ)) × (left : Option (List ℕ)) × HasGivenOpening merging given left opening
 
 -- why no protocol with types was had: the text gives none, a read failed, or memory ran out
-abbrev pub CantLoad : (given left : Option (List ℕ)) → ToolFault → Type 0
-CantLoad given left (Read why) = ⊤
-CantLoad given left Memory = ⊤
-CantLoad given left fault = (text : List ℕ) × HasGiven given left text × GivesNoTypes text fault
+abbrev pub CantLoad : Merging → (given left : Option (List ℕ)) → ToolFault → Type 0
+CantLoad merging given left (Read why) = ⊤
+CantLoad merging given left Memory = ⊤
+CantLoad merging given left fault = (text : List ℕ) × HasGiven given left text × GivesNoTypes merging text fault
 
 -- the source gave a protocol to its end, and of the lines of its roles the sink took what `Took` says
-pub record HasShown (given left : Option (List ℕ)) (Took : List ℕ → Type 0) : Type 0 where
+pub record HasShown (merging : Merging) (given left : Option (List ℕ)) (Took : List ℕ → Type 0) : Type 0 where
   pub roles : List (List ℕ)
   pub types : List LocalType
-  pub loaded : HasLoaded given left roles types
+  pub loaded : HasLoaded merging given left roles types
   pub took : Took (role_lines roles 0 types)
 
 -- why not all lines are shown; nothing is written unless a write fails, and then a front of them
-abbrev pub CantShow : (given left took taken : Option (List ℕ)) → ToolFault → Type 0
-CantShow given left took taken Write = HasShown given left (TookFront took taken)
-CantShow given left took taken fault = CantLoad given left fault × (taken ≡ took)
+abbrev pub CantShow : Merging → (given left took taken : Option (List ℕ)) → ToolFault → Type 0
+CantShow merging given left took taken Write = HasShown merging given left (TookFront took taken)
+CantShow merging given left took taken fault = CantLoad merging given left fault × (taken ≡ took)

@@ -15,7 +15,8 @@ use crate::load::load_opening;
 use mps_base::{Role, Roles};
 use mps_dev::{OverWrite, Sink, Source};
 use mps_local::{Local, write_local};
-use mps_open::Opening;
+use mps_open::{Merging, Opening};
+use mps_words::ProtocolFile;
 use std::alloc::{AllocError, Global};
 use std::io;
 use std::rt::Files;
@@ -77,25 +78,26 @@ fn write_role(
     Ok(())
 }
 
-/// Reads a protocol, and writes a line for each role: its name, ` : `, and its local type.
+/// Reads a protocol, and writes a line for each role: its name, ` : `, and its local type by that kind of merging.
 ///
 /// All is read and checked before the first byte is written. Where a write fails, a front of the lines may be written.
 pub fn write_types<'a, R: Source, W: Sink>(
     alloc: Global,
+    merging: Merging,
     reader: &mut R,
     writer: &mut W,
 ) -> Result<(), ToolFault<'a>>
     requires reads { R.calls reader.old < 2 ^ 62 }
     requires writes { W.failed_calls writer.old < 2 ^ 63 }
-    ensures shown { OnOk result (HasShown (R.remaining reader.old) (R.remaining reader.new)
+    ensures shown { OnOk result (HasShown merging (R.remaining reader.old) (R.remaining reader.new)
         (Appends (W.taken writer.old) (W.taken writer.new))) }
-    ensures fault { IfErr result (CantShow (R.remaining reader.old) (R.remaining reader.new)
+    ensures fault { IfErr result (CantShow merging (R.remaining reader.old) (R.remaining reader.new)
         (W.taken writer.old) (W.taken writer.new)) }
     ensures most { HasReadAtMost most_read (R.remaining reader.old) (R.remaining reader.new) }
     ensures reads { R.failed_calls reader.new ≡ after_reads result (R.failed_calls reader.old) }
     ensures writes { W.failed_calls writer.new ≡ after_writes result (W.failed_calls writer.old) }
 {
-    let opening = load_opening(alloc, reader)?;
+    let opening = load_opening(alloc, merging, reader)?;
     let lines = lines_of(alloc, &opening)?;
     tell(writer, lines.as_slice())
 }
@@ -103,12 +105,12 @@ pub fn write_types<'a, R: Source, W: Sink>(
 /// Prints a line for each role of the protocol in the file: its name and its local type.
 pub fn check_file<'a, R: Files + AllocGlobal + Print>(
     rt: &R,
-    file: &'a str,
+    file: ProtocolFile<'a>,
 ) -> Result<(), ToolFault<'a>>
-    ensures { IfErr result (IsCheckFault file.now) }
+    ensures { IfErr result (IsCheckFault file.entry) }
 {
-    let mut reader = open_file(rt, file)?;
+    let mut reader = open_file(rt, file.name)?;
     let mut writer = OverWrite::new(io::writer(rt));
-    let written = write_types(rt.alloc(), &mut reader, &mut writer);
+    let written = write_types(rt.alloc(), file.merging, &mut reader, &mut writer);
     say_why(written, reader)
 }

@@ -16,6 +16,7 @@ use mps_dev::{OverWrite, Source};
 use mps_room::Room;
 use mps_session::{Session, same};
 use mps_wire::script::replay_session;
+use mps_words::ProtocolFile;
 use std::alloc::{AllocError, Global};
 use std::io;
 use std::rt::Files;
@@ -195,13 +196,13 @@ fn compare_scripts<'a, R: Files + Input + AllocGlobal + Print + Eprint>(
 /// is read.
 pub fn compare_files<'a, R: Files + Input + AllocGlobal + Print + Eprint>(
     rt: &R,
-    file: &'a str,
+    file: ProtocolFile<'a>,
     script: &'a str,
     other: &'a str,
     verbose: bool,
 ) -> Result<u8, ToolFault<'a>>
     ensures status { IfOk result (λ status. status ≤ 1) }
-    ensures fault { IfErr result (IsCompareFault file.now script.now other.now) }
+    ensures fault { IfErr result (IsCompareFault file.entry script.now other.now) }
 {
     let opening = load_file(rt, file)?;
     let first = opening.session(rt.alloc())?;

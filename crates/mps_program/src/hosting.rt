@@ -21,7 +21,7 @@ use mps_hub::{Host, Hosting, Limits, NotOpened, OpenSession, Register, RestoredR
 use mps_line::Reply;
 use mps_open::Opening;
 use mps_text::write_protocol;
-use mps_words::JournalFolder;
+use mps_words::{JournalFolder, ProtocolFile};
 use std::fs::File;
 use std::io;
 use std::io::ErrorKind;
@@ -231,7 +231,7 @@ fn records_of<'a, R: Files<File = File> + OwnFiles + AllocGlobal>(
 // Hosts sessions of the protocol in the file at a port of 127.0.0.1. A fault says what the system says of it.
 fn host_from<'a, R>(
     rt: &R,
-    file: &'a str,
+    file: ProtocolFile<'a>,
     service: HostService<'a>,
     verbose: bool,
 ) -> Result<(), ToolFault<'a>>
@@ -248,7 +248,7 @@ where
         + Sync
         + 'static,
     ensures fault { IfErr result
-        (IsHostFault file.now (option_map (λ j. j.folder.now) service.entry.journal)) }
+        (IsHostFault file.entry (option_map (λ j. j.folder.now) service.entry.journal)) }
 {
     let alloc = rt.alloc();
     let opening = load_file(rt, file)?;
@@ -290,7 +290,7 @@ where
 /// the process.
 pub fn host_file<'a, R>(
     rt: &R,
-    file: &'a str,
+    file: ProtocolFile<'a>,
     service: HostService<'a>,
     verbose: bool,
 ) -> Result<(), ToolFault<'a>>
@@ -307,7 +307,7 @@ where
         + Sync
         + 'static,
     ensures fault { IfErr result
-        (IsHostFault file.now (option_map (λ j. j.folder.now) service.entry.journal)) }
+        (IsHostFault file.entry (option_map (λ j. j.folder.now) service.entry.journal)) }
     ensures quiet { verbose ≡ false → IfErr result (λ fault. without fault ≡ fault) }
 {
     told(host_from(rt, file, service, verbose), verbose)

@@ -15,6 +15,7 @@ use mps_base::Roles;
 use mps_dev::{OverWrite, Sink, Source};
 use mps_session::Session;
 use mps_wire::script::replay_session;
+use mps_words::ProtocolFile;
 use std::alloc::Global;
 use std::cell::Cell;
 use std::rt::Files;
@@ -117,14 +118,14 @@ fn run_strictly<'a, E: AllocGlobal + Eprint, R: Source, W: Sink>(
 /// The protocol is read and checked before the script is opened.
 pub fn run_file<'a, R: Files + Input + AllocGlobal + Print + Eprint>(
     rt: &R,
-    file: &'a str,
+    file: ProtocolFile<'a>,
     script: &'a str,
     strict: bool,
     verbose: bool,
 ) -> Result<u8, ToolFault<'a>>
     ensures status { IfOk result (λ status. status ≤ 1) }
     ensures not_strict { IfOk result (λ status. strict ≡ false → status ≡ 0) }
-    ensures fault { IfErr result (IsRunFault file.now script.now) }
+    ensures fault { IfErr result (IsRunFault file.entry script.now) }
 {
     let opening = load_file(rt, file)?;
     let (roles, session) = opening.into_session(rt.alloc())?;

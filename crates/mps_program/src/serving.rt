@@ -22,7 +22,7 @@ use mps_hub::{
 };
 use mps_open::Opening;
 use mps_room::Room;
-use mps_words::JournalFolder;
+use mps_words::{JournalFolder, ProtocolFile};
 use std::alloc::{AllocError, Global};
 use std::fs::File;
 use std::io;
@@ -394,7 +394,7 @@ fn tell_refused<'a, R: AllocGlobal + Eprint>(
 // Serves sessions of the protocol in the file at a port of 127.0.0.1. A fault says what the system says of it.
 fn serve_from<'a, R>(
     rt: &R,
-    file: &'a str,
+    file: ProtocolFile<'a>,
     service: Service<'a>,
     verbose: bool,
 ) -> Result<(), ToolFault<'a>>
@@ -412,7 +412,7 @@ where
         + 'static,
     requires number { service.first ≤ 2 ^ 63 }
     requires some { (1 ≤ service.sessions) × (service.sessions ≤ 16) }
-    ensures fault { IfErr result (IsServeFault file.now (option_map (λ j. j.folder.now) service.entry.journal)
+    ensures fault { IfErr result (IsServeFault file.entry (option_map (λ j. j.folder.now) service.entry.journal)
         service.entry.first service.entry.sessions) }
 {
     let alloc = rt.alloc();
@@ -447,7 +447,7 @@ where
 /// port is bound.
 pub fn serve_file<'a, R>(
     rt: &R,
-    file: &'a str,
+    file: ProtocolFile<'a>,
     service: Service<'a>,
     verbose: bool,
 ) -> Result<(), ToolFault<'a>>
@@ -465,7 +465,7 @@ where
         + 'static,
     requires number { service.first ≤ 2 ^ 63 }
     requires some { (1 ≤ service.sessions) × (service.sessions ≤ 16) }
-    ensures fault { IfErr result (IsServeFault file.now (option_map (λ j. j.folder.now) service.entry.journal)
+    ensures fault { IfErr result (IsServeFault file.entry (option_map (λ j. j.folder.now) service.entry.journal)
         service.entry.first service.entry.sessions) }
     ensures quiet { verbose ≡ false → IfErr result (λ fault. without fault ≡ fault) }
 {

@@ -5,7 +5,6 @@ use Rattle.mps_base.specs.declared.action.Message.{Message}
 use Rattle.mps_command.specs.Acts.{act_of}
 use Rattle.mps_command.specs.declared.answer.Violation.{Violation}
 use Rattle.mps_command.specs.declared.command.Forward.{Forward}
-use Rattle.mps_command.specs.declared.command.Forward.TheVariants as commands
 use Rattle.mps_local.specs.Local.{LocalType}
 use Rattle.mps_local.specs.Unfolding.{unfolded}
 use Rattle.mps_machine.specs.Rule.{type_after, participant_after}

@@ -24,7 +24,7 @@ can_open types own =
     let sound = (sound_protocol own.roles own.tree own.faultless).session.count in record {
       roles = record { some = omega (arith, count, sound.some); few = omega (arith, count, sound.few) };
       peers = λ p l. subst (λ (n : ℕ). HasPeers n p (type_at types p)) (sym count) (opening_peers types own p);
-      faultless = λ p l. faultless own.roles p own.tree (type_at types p) own.faultless (type_is types own p l);
+      faultless = λ p l. faultless own.merging own.roles p own.tree (type_at types p) own.faultless (type_is types own p l);
     }
 
 pub no_bad_peer : (types : List LocalType) → AreOfOneProtocol types → (p : ℕ) → IsFirstBad types p → ⊥

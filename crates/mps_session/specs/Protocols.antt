@@ -3,6 +3,7 @@ use Rattle.std.specs.Prelude.{◌≡◌, ℕ, List, None, Some}
 use Rattle.mps_global.specs.Global.{GlobalType}
 use Rattle.mps_global.specs.Faults.{fault_of}
 use Rattle.mps_local.specs.Outcome.{IsFirstUnmerged}
+use Rattle.mps_local.specs.declared.merging.Merging.{Merging}
 use Rattle.mps_local.specs.declared.projection.ProjectFault.{ProjectFault}
 use Rattle.mps_local.specs.declared.projection.ProjectFault.TheVariants as projections
 use Rattle.mps_session.specs.declared.protocol.ProtocolFault.{ProtocolFault}
@@ -15,8 +16,8 @@ of_projection projections.Memory = Memory
 
 -- why the protocol has no session: its first fault; or it has none, and a role, the first, has no projection, or memory
 -- ran out
-abbrev pub HasNoSession : List (List ℕ) → GlobalType → ProtocolFault → Type 0
-HasNoSession roles tree (Global fault) = fault_of roles tree ≡ Some fault
-HasNoSession roles tree (Unmergeable role choice) =
-    (fault_of roles tree ≡ None) × IsFirstUnmerged roles tree role choice
-HasNoSession roles tree Memory = fault_of roles tree ≡ None
+abbrev pub HasNoSession : Merging → List (List ℕ) → GlobalType → ProtocolFault → Type 0
+HasNoSession merging roles tree (Global fault) = fault_of roles tree ≡ Some fault
+HasNoSession merging roles tree (Unmergeable role choice) =
+    (fault_of roles tree ≡ None) × IsFirstUnmerged merging roles tree role choice
+HasNoSession merging roles tree Memory = fault_of roles tree ≡ None

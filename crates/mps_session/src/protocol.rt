@@ -5,6 +5,7 @@ ghost use Rattle.mps_global.specs.Global.{plain as global_type};
 ghost use Rattle.mps_global.specs.Faults.{fault_of};
 ghost use Rattle.mps_local.specs.Local.{plain};
 ghost use Rattle.mps_local.specs.Outcome.{AreProjections};
+ghost use Rattle.mps_local.specs.declared.merging.Merging.TheVariants.{Plain};
 ghost use Rattle.mps_machine.specs.Machine.{initial};
 ghost use Rattle.mps_session.specs.Protocols.{of_projection, HasNoSession};
 ghost use Rattle.mps_session.specs.declared.protocol.ProtocolFault.TheVariants.{Global as HasFault, Memory as OutOfMemory};
@@ -13,7 +14,7 @@ use crate::open::OpenFault;
 use crate::session::Session;
 use mps_base::Role;
 use mps_global::{GlobalFault, Protocol, check};
-use mps_local::{Local, ProjectFault, project_all};
+use mps_local::{Local, Merging, ProjectFault, project_all_by};
 use std::alloc::{AllocError, Global};
 use thiserror::Error;
 
@@ -23,8 +24,8 @@ pub enum ProtocolFault {
     /// The protocol isn't well-formed.
     #[error("{0}")]
     Global(GlobalFault),
-    /// The role, the first such, doesn't do the same in each branch of a choice of others. Choices
-    /// are counted in preorder, from 0.
+    /// The role, the first such, has no one type for the branches of a choice of others. Choices are
+    /// counted in preorder, from 0.
     #[error("the branches of choice {choice} differ for role {}, which takes no part in it", role.index())]
     Unmergeable { role: Role, choice: usize },
     #[error("out of memory")]
@@ -80,20 +81,38 @@ pub fn open_types(alloc: Global, types: Vec<Local>) -> Result<Session, AllocErro
     }
 }
 
-/// A session of the protocol before its first step: the protocol is checked, and each role's type is its projection.
-/// The error is the first fault, or `Memory` where memory ran out before one was found. No command is ever refused with
-/// `Mismatch` there.
+/// A session of the protocol before its first step: the protocol is checked, and each role's type is its projection by
+/// plain merging. The error is the first fault, or `Memory` where memory ran out before one was found. No command is
+/// ever refused with `Mismatch` there.
 pub fn open_protocol(alloc: Global, protocol: &Protocol) -> Result<Session, ProtocolFault>
     ensures faultless { OnOk result
         (fault_of protocol.now.roles.items (global_type protocol.now.body) ≡ None) }
-    ensures types { IfOk result (λ session. AreProjections
+    ensures types { IfOk result (λ session. AreProjections Plain
         protocol.now.roles.items (global_type protocol.now.body) session.types) }
     ensures new { IfOk result (λ session. session.state ≡ initial) }
     ensures of_one_protocol { IfOk result (λ session. AreOfOneProtocol session.types) }
     ensures fault { IfErr result
-        (HasNoSession protocol.now.roles.items (global_type protocol.now.body)) }
+        (HasNoSession Plain protocol.now.roles.items (global_type protocol.now.body)) }
+{
+    open_protocol_by(alloc, Merging::Plain, protocol)
+}
+
+/// `open_protocol` by the merging that is given.
+pub fn open_protocol_by(
+    alloc: Global,
+    merging: Merging,
+    protocol: &Protocol,
+) -> Result<Session, ProtocolFault>
+    ensures faultless { OnOk result
+        (fault_of protocol.now.roles.items (global_type protocol.now.body) ≡ None) }
+    ensures types { IfOk result (λ session. AreProjections merging
+        protocol.now.roles.items (global_type protocol.now.body) session.types) }
+    ensures new { IfOk result (λ session. session.state ≡ initial) }
+    ensures of_one_protocol { IfOk result (λ session. AreOfOneProtocol session.types) }
+    ensures fault { IfErr result
+        (HasNoSession merging protocol.now.roles.items (global_type protocol.now.body)) }
 {
     check(protocol)?;
-    let types = project_all(alloc, protocol)?;
+    let types = project_all_by(alloc, merging, protocol)?;
     Ok(open_types(alloc, types)?)
 }

@@ -2,7 +2,6 @@
 use Rattle.std.proofs.Common.{◌≡◌, ℕ, zero, suc, ◌+◌, List, [], ◌∷◌, length, length-take, take, drop, Option, Some, refl, sym, subst, arith, add-zero}
 use Rattle.std.specs.Prelude.{slice_get}
 use Rattle.std.specs.List.{AllByRecursion}
-use Rattle.mps_local.specs.Local as local
 use Rattle.mps_local.specs.Local.{LocalType}
 use Rattle.mps_local.specs.Actions.{Head, Begins, first_action, type_left, continuation}
 use Rattle.mps_local.proofs.Leading.{paired}

@@ -8,6 +8,7 @@ ghost use Rattle.mps_local.specs.Shape.{node_count};
 ghost use Rattle.mps_local.specs.Loops.{is_closed, is_guarded};
 ghost use Rattle.mps_local.specs.LocalFaults.{local_fault_of};
 ghost use Rattle.mps_local.specs.declared.faults.LocalFault.{LocalFault};
+ghost use Rattle.mps_local.specs.declared.merging.Merging.{Merging};
 ghost use Rattle.mps_table.specs.Sizes.{acts_and_ends, labels_of_choices};
 ghost use Rattle.mps_table.specs.Standing.{StandsFor};
 
@@ -34,8 +35,9 @@ pub fn compile(alloc: Global, tree: &Local) -> Result<Table, LocalFault>
         → IsOkUnless result LocalFault.Memory }
 
     // What a role does in a protocol without faults has none.
-    ensures projected { (roles : List (List ℕ)) (role : ℕ) (protocol : GlobalType)
-        → fault_of roles protocol ≡ None → projection roles role protocol ≡ Some (plain tree.now)
+    ensures projected { (merging : Merging) (roles : List (List ℕ)) (role : ℕ)
+        (protocol : GlobalType) → fault_of roles protocol ≡ None
+        → projection merging roles role protocol ≡ Some (plain tree.now)
         → IsOkUnless result LocalFault.Memory }
 {
     match first_fault(tree) {

@@ -7,6 +7,7 @@ ghost use Rattle.mps_global.specs.Faults.{fault_of};
 ghost use Rattle.mps_history.specs.Steps.{step_of};
 ghost use Rattle.mps_links.specs.Marks.{marked_keys};
 ghost use Rattle.mps_local.specs.Outcome.{AreProjections};
+ghost use Rattle.mps_local.specs.declared.merging.Merging.TheVariants.{Plain};
 
 use crate::outcomes::{Came, Outcome, Until, answered, came_to, refused};
 use crate::parties::opened;
@@ -272,7 +273,7 @@ pub fn asks_whether(alloc: Global, until: Until) -> Option<Outcome> {
 
 // A new session of the protocol.
 fn session_of(alloc: Global, protocol: &Protocol) -> Option<Session>
-    ensures { IfSome result (λ session. AreProjections
+    ensures { IfSome result (λ session. AreProjections Plain
         protocol.now.roles.items (global_type protocol.now.body) session.types) }
 {
     match open_protocol(alloc, protocol) {
@@ -332,7 +333,7 @@ fn received(session: &mut Session, slot: Name) -> bool
 
 // A new session of the protocol in which b received what a sent.
 fn relayed(alloc: Global, protocol: &Protocol) -> Option<Session>
-    ensures { IfSome result (λ session. AreProjections
+    ensures { IfSome result (λ session. AreProjections Plain
         protocol.now.roles.items (global_type protocol.now.body) session.types) }
 {
     let slot = Name::read(b"x")?;

@@ -20,19 +20,19 @@ const ORDERS: &[Words] = &[
     // tasks without a network, each with its files
     Words(
         &["mps_tool", "run", "a.protocol", "a.script"],
-        "Offline { task: Run { file: \"a.protocol\", script: \"a.script\", strict: false }, verbose: false }",
+        "Offline { task: Run { file: ProtocolFile { name: \"a.protocol\", merging: Plain }, script: \"a.script\", strict: false }, verbose: false }",
     ),
     Words(
         &["mps_tool", "run", "--strict", "a.protocol", "-"],
-        "Offline { task: Run { file: \"a.protocol\", script: \"-\", strict: true }, verbose: false }",
+        "Offline { task: Run { file: ProtocolFile { name: \"a.protocol\", merging: Plain }, script: \"-\", strict: true }, verbose: false }",
     ),
     Words(
         &["mps_tool", "same", "a.protocol", "a.script", "b.script"],
-        "Offline { task: Same { file: \"a.protocol\", first: \"a.script\", second: \"b.script\" }, verbose: false }",
+        "Offline { task: Same { file: ProtocolFile { name: \"a.protocol\", merging: Plain }, first: \"a.script\", second: \"b.script\" }, verbose: false }",
     ),
     Words(
         &["mps_tool", "check", "a.protocol"],
-        "Offline { task: Check { file: \"a.protocol\" }, verbose: false }",
+        "Offline { task: Check { file: ProtocolFile { name: \"a.protocol\", merging: Plain } }, verbose: false }",
     ),
     // a server: which connections it accepts, and where it records
     Words(
@@ -44,7 +44,7 @@ const ORDERS: &[Words] = &[
             "--sessions=2",
             "--endless",
         ],
-        "Serve { file: \"a.protocol\", port: 0, sessions: 2, first: 1, connections: None, idle: None, wait: None, share: 100, journal: None, verbose: false }",
+        "Serve { file: ProtocolFile { name: \"a.protocol\", merging: Plain }, port: 0, sessions: 2, first: 1, connections: None, idle: None, wait: None, share: 100, journal: None, verbose: false }",
     ),
     Words(
         &[
@@ -56,7 +56,7 @@ const ORDERS: &[Words] = &[
             "--connections=3",
             "-v",
         ],
-        "Serve { file: \"a.protocol\", port: 0, sessions: 2, first: 1, connections: Some(3), idle: None, wait: None, share: 100, journal: None, verbose: true }",
+        "Serve { file: ProtocolFile { name: \"a.protocol\", merging: Plain }, port: 0, sessions: 2, first: 1, connections: Some(3), idle: None, wait: None, share: 100, journal: None, verbose: true }",
     ),
     Words(
         &[
@@ -67,7 +67,7 @@ const ORDERS: &[Words] = &[
             "--sessions=2",
             "--journal=kept",
         ],
-        "Serve { file: \"a.protocol\", port: 0, sessions: 2, first: 1, connections: None, idle: None, ",
+        "Serve { file: ProtocolFile { name: \"a.protocol\", merging: Plain }, port: 0, sessions: 2, first: 1, connections: None, idle: None, ",
     ),
     // which connections it accepts is said in one way, unless it has a journal
     Words(
@@ -95,11 +95,11 @@ const ORDERS: &[Words] = &[
     // `-v` may stand anywhere, and more than once
     Words(
         &["mps_tool", "-v", "check", "a.protocol"],
-        "Offline { task: Check { file: \"a.protocol\" }, verbose: true }",
+        "Offline { task: Check { file: ProtocolFile { name: \"a.protocol\", merging: Plain } }, verbose: true }",
     ),
     Words(
         &["mps_tool", "check", "--verbose", "a.protocol"],
-        "Offline { task: Check { file: \"a.protocol\" }, verbose: true }",
+        "Offline { task: Check { file: ProtocolFile { name: \"a.protocol\", merging: Plain } }, verbose: true }",
     ),
     Words(
         &[
@@ -111,7 +111,7 @@ const ORDERS: &[Words] = &[
             "a.protocol",
             "--verbose",
         ],
-        "Offline { task: Check { file: \"a.protocol\" }, verbose: true }",
+        "Offline { task: Check { file: ProtocolFile { name: \"a.protocol\", merging: Plain } }, verbose: true }",
     ),
     // the greatest number of a first session, 2^63
     Words(
@@ -124,12 +124,12 @@ const ORDERS: &[Words] = &[
             "--first=9223372036854775808",
             "--endless",
         ],
-        "Serve { file: \"a.protocol\", port: 0, sessions: 2, first: 9223372036854775808, ",
+        "Serve { file: ProtocolFile { name: \"a.protocol\", merging: Plain }, port: 0, sessions: 2, first: 9223372036854775808, ",
     ),
     // a host: how many sessions are open, and, where they are recorded, for how long
     Words(
         &["mps_tool", "host", "a.protocol", "--port=0"],
-        "Host { file: \"a.protocol\", port: 0, open: 10000, keep: 10, idle: None, wait: None, share: 50, journal: None, verbose: false }",
+        "Host { file: ProtocolFile { name: \"a.protocol\", merging: Plain }, port: 0, open: 10000, keep: 10, idle: None, wait: None, share: 50, journal: None, verbose: false }",
     ),
     Words(
         &[
@@ -141,7 +141,7 @@ const ORDERS: &[Words] = &[
             "--keep=3",
             "--open=1048576",
         ],
-        "Host { file: \"a.protocol\", port: 0, open: 1048576, keep: 3, idle: None, wait: None, share: 50, journal: Some(",
+        "Host { file: ProtocolFile { name: \"a.protocol\", merging: Plain }, port: 0, open: 1048576, keep: 3, idle: None, wait: None, share: 50, journal: Some(",
     ),
     Words(&["mps_tool", "host", "a.protocol"], "2"),
     Words(
@@ -155,7 +155,7 @@ const ORDERS: &[Words] = &[
     // the share of a session that one role may fill
     Words(
         &["mps_tool", "host", "a.protocol", "--port=0", "--share=100"],
-        "Host { file: \"a.protocol\", port: 0, open: 10000, keep: 10, idle: None, wait: None, share: 100, ",
+        "Host { file: ProtocolFile { name: \"a.protocol\", merging: Plain }, port: 0, open: 10000, keep: 10, idle: None, wait: None, share: 100, ",
     ),
     Words(
         &["mps_tool", "host", "a.protocol", "--port=0", "--share=101"],
@@ -175,12 +175,12 @@ const ORDERS: &[Words] = &[
             "--endless",
             "--share=1",
         ],
-        "Serve { file: \"a.protocol\", port: 0, sessions: 2, first: 1, connections: None, idle: None, wait: None, share: 1, ",
+        "Serve { file: ProtocolFile { name: \"a.protocol\", merging: Plain }, port: 0, sessions: 2, first: 1, connections: None, idle: None, wait: None, share: 1, ",
     ),
     // for how many seconds an answer may wait
     Words(
         &["mps_tool", "host", "a.protocol", "--port=0", "--wait=3600"],
-        "Host { file: \"a.protocol\", port: 0, open: 10000, keep: 10, idle: None, wait: Some(3600), share: 50, ",
+        "Host { file: ProtocolFile { name: \"a.protocol\", merging: Plain }, port: 0, open: 10000, keep: 10, idle: None, wait: Some(3600), share: 50, ",
     ),
     Words(
         &["mps_tool", "host", "a.protocol", "--port=0", "--wait=3601"],
@@ -200,8 +200,37 @@ const ORDERS: &[Words] = &[
             "--endless",
             "--wait=1",
         ],
-        "Serve { file: \"a.protocol\", port: 0, sessions: 2, first: 1, connections: None, idle: None, wait: Some(1), share: 100, ",
+        "Serve { file: ProtocolFile { name: \"a.protocol\", merging: Plain }, port: 0, sessions: 2, first: 1, connections: None, idle: None, wait: Some(1), share: 100, ",
     ),
+    // how branches are merged
+    Words(
+        &["mps_tool", "check", "--merging", "full", "a.protocol"],
+        "Offline { task: Check { file: ProtocolFile { name: \"a.protocol\", merging: Full } }, verbose: false }",
+    ),
+    Words(
+        &[
+            "mps_tool",
+            "serve",
+            "a.protocol",
+            "--port=0",
+            "--sessions=2",
+            "--endless",
+            "--merging=full",
+        ],
+        "Serve { file: ProtocolFile { name: \"a.protocol\", merging: Full }, port: 0, ",
+    ),
+    Words(
+        &[
+            "mps_tool",
+            "host",
+            "a.protocol",
+            "--port=0",
+            "--merging=full",
+        ],
+        "Host { file: ProtocolFile { name: \"a.protocol\", merging: Full }, port: 0, ",
+    ),
+    Words(&["mps_tool", "check", "a.protocol", "--merging"], "2"),
+    Words(&["mps_tool", "check", "a.protocol", "--merging=half"], "2"),
     // use and version
     Words(&["mps_tool", "--help"], "Offline { task: Help { text: "),
     Words(

@@ -5,6 +5,7 @@ ghost use Rattle.mps_machine.specs.Machine.{initial};
 use mps_base::{Name, Roles};
 use mps_dev::{Pieces, Short};
 use mps_global::GlobalFault;
+use mps_open::Merging;
 use mps_program::{
     Tallies, Tally, ToolFault, check_file, compare_files, fault_line, lines_of, load_opening,
     open_file, read_text, run_file, status, verdict_of, write_types,
@@ -12,6 +13,7 @@ use mps_program::{
 use mps_session::Session;
 use mps_text::TextKind;
 use mps_wire::script::replay_session;
+use mps_words::ProtocolFile;
 use std::alloc::{AllocError, Global};
 use std::process::Abort;
 use std::test::Fail;
@@ -41,7 +43,7 @@ fn opened(alloc: Global, pieces: Vec<Vec<u8>>) -> Result<(Roles, Session), ToolF
     ensures named { IfOk result (λ r. length r.0 ≡ length r.1.types) }
     ensures new { IfOk result (λ r. r.1.state ≡ initial) }
 {
-    let opening = load_opening(alloc, &mut Pieces::new(pieces, None))?;
+    let opening = load_opening(alloc, Merging::Plain, &mut Pieces::new(pieces, None))?;
     Ok(opening.into_session(alloc)?)
 }
 
@@ -242,7 +244,7 @@ fn counted(
 
 // The lines of the protocol's roles, or the line of its fault.
 fn shown(alloc: Global, pieces: Vec<Vec<u8>>) -> Result<Vec<u8>, AllocError> {
-    match load_opening(alloc, &mut Pieces::new(pieces, None)) {
+    match load_opening(alloc, Merging::Plain, &mut Pieces::new(pieces, None)) {
         Ok(opening) => lines_of(alloc, &opening),
         Err(fault) => fault_line(alloc, &fault),
     }
@@ -486,7 +488,7 @@ fn a_read_that_fails_is_told(rt: HostRuntime) -> Result<(), Fail> {
     );
     let mut reader = Pieces::new(whole(rt.alloc(), RELAY)?, Some(2));
     assert!(rt;
-        is_failed_read(load_opening(rt.alloc(), &mut reader)),
+        is_failed_read(load_opening(rt.alloc(), Merging::Plain, &mut reader)),
         "by load_opening"
     );
     Ok(())
@@ -559,7 +561,11 @@ fn told(
         first: Tally::new(),
         second: Tally::new(),
     };
-    let opening = load_opening(alloc, &mut Pieces::new(whole(alloc, PAIRS)?, None))?;
+    let opening = load_opening(
+        alloc,
+        Merging::Plain,
+        &mut Pieces::new(whole(alloc, PAIRS)?, None),
+    )?;
     let first = opening.session(alloc)?;
     let (roles, second) = opening.into_session(alloc)?;
     verdict_of(
@@ -614,6 +620,12 @@ fn names_no_file(alloc: Global, fault: Option<ToolFault<'_>>) -> Result<bool, Al
     }
 }
 
+// A protocol's file that isn't there.
+const NO_FILE: ProtocolFile<'static> = ProtocolFile {
+    name: "no such file",
+    merging: Merging::Plain,
+};
+
 // `mps_program::open_file` and `check_file` name a file that isn't there, on the machine of the test itself. The status
 // is 2.
 #[test]
@@ -623,7 +635,7 @@ fn a_file_that_does_not_open_is_named(rt: HostRuntime) -> Result<(), Fail> {
         names_no_file(rt.alloc(), found)?,
         "open_file: wanted `refused file no such file`, status 2"
     );
-    let found = check_file(&rt, "no such file").err();
+    let found = check_file(&rt, NO_FILE).err();
     assert!(rt;
         names_no_file(rt.alloc(), found)?,
         "check_file: wanted `refused file no such file`, status 2"
@@ -634,12 +646,12 @@ fn a_file_that_does_not_open_is_named(rt: HostRuntime) -> Result<(), Fail> {
 // `mps_program::run_file` and `compare_files` look for the protocol first: that file is named, not the scripts.
 #[test]
 fn a_protocol_that_does_not_open_is_named_first(rt: HostRuntime) -> Result<(), Fail> {
-    let found = run_file(&rt, "no such file", "no such script", true, false).err();
+    let found = run_file(&rt, NO_FILE, "no such script", true, false).err();
     assert!(rt;
         names_no_file(rt.alloc(), found)?,
         "run_file: wanted `refused file no such file`, status 2"
     );
-    let found = compare_files(&rt, "no such file", "no such script", "nor this", false).err();
+    let found = compare_files(&rt, NO_FILE, "no such script", "nor this", false).err();
     assert!(rt;
         names_no_file(rt.alloc(), found)?,
         "compare_files: wanted `refused file no such file`, status 2"
@@ -680,7 +692,7 @@ fn write_to(
 ) -> Result<(Vec<u8>, Vec<u8>), AllocError> {
     let mut reader = Pieces::new(pieces, fails_from);
     let mut writer = Short::new(alloc, room)?;
-    let line = match write_types(alloc, &mut reader, &mut writer) {
+    let line = match write_types(alloc, Merging::Plain, &mut reader, &mut writer) {
         Ok(()) => Vec::new(alloc),
         Err(fault) => fault_line(alloc, &fault)?,
     };

@@ -2,6 +2,7 @@
 
 use mps_dev::{Pieces, Short};
 use mps_hub::{Hub, Limits};
+use mps_open::Merging;
 use mps_program::{load_opening, rooms_of, serve_to};
 use std::alloc::Global;
 use std::fs::File;
@@ -55,7 +56,7 @@ where
     let alloc = rt.alloc();
     let text = vec![in alloc; Vec::from_slice(alloc, protocol)?]?;
     let mut writer = Short::new(alloc, 100)?;
-    let Ok(opening) = load_opening(alloc, &mut Pieces::new(text, None)) else {
+    let Ok(opening) = load_opening(alloc, Merging::Plain, &mut Pieces::new(text, None)) else {
         return Err("a protocol".into());
     };
     let rooms = rooms_of(alloc, &opening, sessions)?;

@@ -1,7 +1,7 @@
 //! mps_program, mps_words: what a call of the program prints and tells, and its exit status, on a machine in memory.
 use crate::fake::Machine;
 use mps_program::{ToolFault, carry_out, check_file, end_after, run_file};
-use mps_words::{Order, order};
+use mps_words::{Merging, Order, ProtocolFile, order};
 use std::alloc::Global;
 use std::process::{Abort, ExitCode};
 use std::rt::Files;
@@ -75,6 +75,14 @@ const FILES: &[(&str, &str)] = &[
     (
         "unmergeable",
         "roles a b c ; a -> b { l : a -> c : int . end , r : end }",
+    ),
+    (
+        "told",
+        "roles a b c ; a -> b { l : a -> c { x : end } , r : a -> c { y : end } }",
+    ),
+    (
+        "telling",
+        "a choose b l\na choose c x\nc pick a\nb pick a\n",
     ),
     ("empty", ""),
     ("scrawl", SCRAWL),
@@ -506,6 +514,69 @@ const CHECKS: &[Row] = &[
     ),
 ];
 
+// A role that takes no part in a choice, and is told of the branch by a label of its own.
+const MERGED: &[Row] = &[
+    Row(
+        &["mps_tool", "check", "told"],
+        1000,
+        "",
+        "refused projection c 0\n",
+        3,
+    ),
+    Row(
+        &["mps_tool", "check", "--merging", "plain", "told"],
+        1000,
+        "",
+        "refused projection c 0\n",
+        3,
+    ),
+    Row(
+        &["mps_tool", "check", "--merging", "full", "told"],
+        1000,
+        "a : choose b { l : choose c { x : end } , r : choose c { y : end } }\n\
+        b : pick a { l : end , r : end }\nc : pick a { x : end , y : end }\n",
+        "",
+        0,
+    ),
+    Row(
+        &["mps_tool", "run", "--merging=full", "told", "telling"],
+        1000,
+        "done 1\ndone 2\ndone 3 x\ndone 4 l\n",
+        "",
+        0,
+    ),
+    Row(
+        &[
+            "mps_tool",
+            "same",
+            "told",
+            "telling",
+            "telling",
+            "--merging",
+            "full",
+        ],
+        1000,
+        "same\n",
+        "",
+        0,
+    ),
+    Row(
+        &["mps_tool", "same", "told", "telling", "telling"],
+        1000,
+        "",
+        "refused projection c 0\n",
+        3,
+    ),
+    // what no kind of merging gives a type
+    Row(
+        &["mps_tool", "run", "--merging=full", "unmergeable", "script"],
+        1000,
+        "",
+        "refused projection c 0\n",
+        3,
+    ),
+];
+
 // Does what the words say, on a machine without a network.
 fn obeyed<'a, R: Files + Input + AllocGlobal + Print + Eprint>(
     rt: &R,
@@ -587,6 +658,12 @@ fn texts_and_truth_values_are_written_as_they_are_sent(rt: HostRuntime) {
     plays(&rt, rt.alloc(), GREETINGS)
 }
 
+// `mps_tool check`, `run` and `same` merge fully where `--merging full` is given, and plainly where not.
+#[test]
+fn branches_are_merged_as_the_option_says(rt: HostRuntime) {
+    plays(&rt, rt.alloc(), MERGED)
+}
+
 // `mps_tool --version` and `-V` print it, with status 0.
 #[test]
 fn version_is_printed_with_status_0(rt: HostRuntime) {
@@ -645,8 +722,12 @@ fn help_is_printed_with_status_0(rt: HostRuntime) {
 #[test]
 fn two_files_are_printed_one_after_the_other(rt: HostRuntime) {
     let machine = Machine::new(rt.alloc(), FILES, 1000);
-    let done = run_file(&machine, "relay", "script", false, false).is_ok()
-        && check_file(&machine, "relay").is_ok();
+    let relay = ProtocolFile {
+        name: "relay",
+        merging: Merging::Plain,
+    };
+    let done = run_file(&machine, relay, "script", false, false).is_ok()
+        && check_file(&machine, relay).is_ok();
     let (printed, _) = machine.output();
     assert!(rt; done, "run_file and check_file find no fault");
     assert!(rt;

@@ -2,6 +2,7 @@
 ghost use Rattle.std.specs.Prelude.{◌≡◌};
 ghost use Rattle.mps_global.specs.Global.{plain};
 ghost use Rattle.mps_local.specs.Outcome.{AreProjections};
+ghost use Rattle.mps_local.specs.declared.merging.Merging.TheVariants.{Plain};
 
 use crate::open_protocols::{choice, int, protocol};
 use crate::steps::{A, Ask, B, C, command, role_of};
@@ -74,7 +75,7 @@ fn take_all(rt: &(impl Abort + AllocGlobal), session: &mut Session, turns: &[Tur
 
 // A new session of the protocol after these turns.
 fn after(rt: &(impl Abort + AllocGlobal), protocol: &Protocol, turns: &[Turn]) -> Session
-    ensures { AreProjections protocol.now.roles.items (plain protocol.now.body) result.types }
+    ensures { AreProjections Plain protocol.now.roles.items (plain protocol.now.body) result.types }
 {
     let mut session = open_protocol(rt.alloc(), protocol).expect(rt, "a session");
     take_all(rt, &mut session, turns);
@@ -198,7 +199,7 @@ fn is_untried(
     session: &Session,
     turns: &[Turn],
 ) -> bool
-    requires { AreProjections protocol.now.roles.items (plain protocol.now.body) session.now.types }
+    requires { AreProjections Plain protocol.now.roles.items (plain protocol.now.body) session.now.types }
 {
     let untried = after(rt, protocol, turns);
     same(session, &untried) && session.issued() == untried.issued()

@@ -170,6 +170,36 @@ fn branches_that_differ_are_named_by_role_and_choice(rt: HostRuntime) {
     is_unmergeable(&rt, told_behind_two(&rt), 1);
 }
 
+// a tells c of its choice by a label.
+fn told_by_a_label(rt: &(impl Abort + AllocGlobal), label: &str) -> Global {
+    choice(rt, "a", "c", &[label], Global::End)
+}
+
+// c is told of both branches, by labels of its own.
+fn told_by_labels(rt: &(impl Abort + AllocGlobal)) -> Global {
+    let second = more(rt, "r", told_by_a_label(rt, "y"), Branches::NoMore);
+    let branches = more(rt, "l", told_by_a_label(rt, "x"), second);
+    chosen(rt, "a", "b", branches)
+}
+
+// c is told `y`.
+const TOLD: &[Line] = &[
+    Asks(A, Ask::Choose(B, "r"), "1 -"),
+    Asks(A, Ask::Choose(C, "y"), "2 -"),
+    Asks(C, Ask::Pick(A), "3 y"),
+    Asks(B, Ask::Pick(A), "4 r"),
+];
+
+// `mps_session::open_protocol_by` opens by full merging what `open_protocol` refuses.
+#[test]
+fn a_role_that_is_told_by_labels_has_a_session_by_full_merging(rt: HostRuntime) {
+    is_unmergeable(&rt, told_by_labels(&rt), 0);
+    let protocol = protocol(&rt, &["a", "b", "c"], told_by_labels(&rt));
+    let opened = open_protocol_by(rt.alloc(), Merging::Full, &protocol);
+    let mut session = opened.expect(&rt, "a session");
+    play(&rt, &mut session, TOLD);
+}
+
 // One label more than a choice may have.
 const SEVENTEEN: &[&str] = &[
     "a", "b", "c", "d", "e", "f", "g", "h", "i", "j", "k", "l", "m", "n", "o", "p", "q",

@@ -13,6 +13,8 @@ mod lines;
 #[cfg(test)]
 mod local_faults;
 #[cfg(test)]
+mod merging;
+#[cfg(test)]
 mod projections;
 #[cfg(test)]
 mod protocol_texts;

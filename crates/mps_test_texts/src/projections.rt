@@ -112,8 +112,13 @@ fn fails_at(rt: &(impl Abort + AllocGlobal), body: Global, role: u8, choice: usi
     );
 }
 
-// Whether the type is written so.
-fn is_written(rt: &(impl Abort + AllocGlobal), roles: &Roles, t: &Local, text: &str) -> bool
+/// Whether the type is written so.
+pub(crate) fn is_written(
+    rt: &(impl Abort + AllocGlobal),
+    roles: &Roles,
+    t: &Local,
+    text: &str,
+) -> bool
     requires { AllPeers (λ peer. peer < length roles.now) (plain t.now) }
 {
     let written = write_local(rt.alloc(), roles, t).expect(rt, "memory");

@@ -3,7 +3,7 @@ use crate::sessions::RELAY;
 use mps_dev::{Short, Sink};
 use mps_embed::{Embedded, FileRoom};
 use mps_keeper::{Book, LONGEST_LINE, RestoredRoom};
-use mps_open::{choice_text, open_text};
+use mps_open::{Merging, choice_text, open_text};
 use mps_seal::Seal;
 use std::alloc::Global;
 use std::process::Abort;
@@ -203,6 +203,35 @@ fn a_text_that_gives_no_session_is_told_why(rt: HostRuntime) {
     assert!(rt;
         gives_none(alloc, unmerged, 50, 0),
         "no type for c, for choice 0"
+    );
+}
+
+// A loop that three roles leave together: a label of its own tells c of it.
+const ROUNDS: &[u8] =
+    b"roles a b c ; rec X . a -> b { more : a -> c { more : c -> a : int . X } , stop : a -> c { stop : end } }";
+
+// `Embedded::open_by` opens a room of a protocol that needs full merging; `open` doesn't.
+#[test]
+fn three_roles_leave_a_loop_together(rt: HostRuntime) {
+    assert!(rt; gives_none(rt.alloc(), ROUNDS, 50, 0), "plainly none");
+    let mut room = FileRoom::open_by(rt.alloc(), Merging::Full, ROUNDS)
+        .ok()
+        .expect(&rt, "a room");
+    assert!(rt;
+        gets(&mut room, b"a", b"choose b stop", b"done 1"),
+        "b is told"
+    );
+    assert!(rt;
+        gets(&mut room, b"a", b"choose c stop", b"done 2"),
+        "c is told"
+    );
+    assert!(rt;
+        gets(&mut room, b"c", b"pick a", b"done 3 stop"),
+        "c hears of it"
+    );
+    assert!(rt;
+        gets(&mut room, b"c", b"send a 5", b"refused ended"),
+        "and has ended"
     );
 }
 

@@ -1,5 +1,14 @@
 //! What the program can do.
 
+use mps_local::Merging;
+
+/// The file with the protocol, and how branches are merged for roles that take no part in a choice.
+#[derive(Clone, Copy, Debug, PartialEq, Eq)]
+pub struct ProtocolFile<'a> {
+    pub name: &'a str,
+    pub merging: Merging,
+}
+
 /// What the program is told to do.
 #[derive(Debug, Drop)]
 pub enum Order<'a> {
@@ -11,7 +20,7 @@ pub enum Order<'a> {
     },
     /// Serve so many sessions of the protocol in the file at that port.
     Serve {
-        file: &'a str,
+        file: ProtocolFile<'a>,
         port: u16,
         sessions: u64,
         /// The number of the first session. Those after it have the next numbers.
@@ -31,7 +40,7 @@ pub enum Order<'a> {
     },
     /// Open each session of the protocol in the file that somebody joins at that port.
     Host {
-        file: &'a str,
+        file: ProtocolFile<'a>,
         port: u16,
         /// How many sessions are open at once at most.
         open: u64,
@@ -69,18 +78,18 @@ pub enum Task<'a> {
     },
     /// Show each role's local type of the protocol in the file.
     Check {
-        file: &'a str,
+        file: ProtocolFile<'a>,
     },
     /// Run the script on a session of the protocol in the file.
     Run {
-        file: &'a str,
+        file: ProtocolFile<'a>,
         script: &'a str,
         /// Whether to stop at the first refused line.
         strict: bool,
     },
     /// Say whether two scripts come to the same on sessions of the protocol in the file.
     Same {
-        file: &'a str,
+        file: ProtocolFile<'a>,
         first: &'a str,
         second: &'a str,
     },

@@ -5,6 +5,7 @@ mod command;
 mod faults;
 mod words;
 
-pub use command::{JournalFolder, Order, Task};
+pub use command::{JournalFolder, Order, ProtocolFile, Task};
 pub use faults::UseFault;
+pub use mps_local::Merging;
 pub use words::{order, words_of};

@@ -5,11 +5,12 @@ ghost use Rattle.mps_words.specs.Orders.{IsInRange};
 ghost use Rattle.mps_words.specs.Uses.{Says, no_text};
 ghost use Rattle.mps_words.specs.Private.Uses.{missing};
 
-use crate::command::{JournalFolder, Order, Task};
+use crate::command::{JournalFolder, Order, ProtocolFile, Task};
 use crate::faults::{UseFault, usage};
 use clap::builder::ValueParser;
 use clap::error::ErrorKind;
 use clap::{Arg, ArgAction, ArgGroup, ArgMatches, Command, Error};
+use mps_local::Merging;
 use std::alloc::{AllocError, Global};
 use std::rt::Env;
 use std::{env, io};
@@ -50,13 +51,23 @@ struct Range {
     most: u64,
 }
 
-// A word that a command needs, or an option: what it stands for, what the help says of it, and in which range it is,
-// if it is a number.
+// What a word may be.
+#[derive(Clone, Copy)]
+enum Takes {
+    // any text
+    Text,
+    // a number in the range
+    Number(Range),
+    // one of these words
+    OneOf(&'static [&'static str]),
+}
+
+// A word that a command needs, or an option: what it stands for, what the help says of it, and what it may be.
 struct Word {
     name: &'static str,
     help: &'static str,
     given: Given,
-    range: Option<Range>,
+    takes: Takes,
 }
 
 // The ports that there are; 0 stands for any that is free.
@@ -94,7 +105,20 @@ const FILE: Word = Word {
     name: "FILE",
     help: "The protocol",
     given: Given::Always,
-    range: None,
+    takes: Takes::Text,
+};
+
+// The words for the kinds of merging.
+const PLAIN: &str = "plain";
+
+const FULL: &str = "full";
+
+// How branches are merged.
+const MERGING: Word = Word {
+    name: "merging",
+    help: "How branches are merged for roles that take no part in a choice: plain, if it isn't given, or full, by which a label of their own may tell them of the branch",
+    given: Given::Sometimes,
+    takes: Takes::OneOf(&[PLAIN, FULL]),
 };
 
 // The script that is run.
@@ -102,7 +126,7 @@ const SCRIPT: Word = Word {
     name: "SCRIPT",
     help: "A command on each line; - stands for the standard input",
     given: Given::Always,
-    range: None,
+    takes: Takes::Text,
 };
 
 // Whether a run ends with the first refused line.
@@ -110,7 +134,7 @@ const STRICT: Word = Word {
     name: "strict",
     help: "Ends with status 1 at the first line that is refused",
     given: Given::Alone,
-    range: None,
+    takes: Takes::Text,
 };
 
 // The first of two scripts that are compared.
@@ -118,7 +142,7 @@ const FIRST: Word = Word {
     name: "FIRST",
     help: "A script, as for run",
     given: Given::Always,
-    range: None,
+    takes: Takes::Text,
 };
 
 // The second of two scripts that are compared.
@@ -126,7 +150,7 @@ const SECOND: Word = Word {
     name: "SECOND",
     help: "Another script",
     given: Given::Always,
-    range: None,
+    takes: Takes::Text,
 };
 
 // The port that a server listens on.
@@ -134,7 +158,7 @@ const PORT: Word = Word {
     name: "port",
     help: "The port of 127.0.0.1, 0 for any that is free",
     given: Given::Always,
-    range: Some(PORTS),
+    takes: Takes::Number(PORTS),
 };
 
 // How many sessions a server has.
@@ -142,7 +166,7 @@ const SESSIONS: Word = Word {
     name: "sessions",
     help: "How many sessions are opened, 1 to 16",
     given: Given::Always,
-    range: Some(SESSION_COUNTS),
+    takes: Takes::Number(SESSION_COUNTS),
 };
 
 // The number of a server's first session.
@@ -150,7 +174,7 @@ const FIRST_SESSION: Word = Word {
     name: "first",
     help: "The number of the first session, 1 to 9223372036854775808; 1, if it isn't given",
     given: Given::Sometimes,
-    range: Some(FIRST_NUMBERS),
+    takes: Takes::Number(FIRST_NUMBERS),
 };
 
 // How many connections a server accepts.
@@ -158,7 +182,7 @@ const CONNECTIONS: Word = Word {
     name: "connections",
     help: "How many connections are accepted, 1 to 64; all that come, if it isn't given with --journal",
     given: Given::Sometimes,
-    range: Some(CONNECTION_COUNTS),
+    takes: Takes::Number(CONNECTION_COUNTS),
 };
 
 // Whether it accepts all that come.
@@ -166,7 +190,7 @@ const ENDLESS: Word = Word {
     name: "endless",
     help: "Connections are accepted until the process is ended",
     given: Given::AloneWithout("connections"),
-    range: None,
+    takes: Takes::Text,
 };
 
 // Where the sessions are kept.
@@ -174,7 +198,7 @@ const JOURNAL: Word = Word {
     name: "journal",
     help: "A folder that keeps the sessions; the next server with it goes on where this one stopped",
     given: Given::Sometimes,
-    range: None,
+    takes: Takes::Text,
 };
 
 // Whether the disk is waited for.
@@ -182,7 +206,7 @@ const SYNC: Word = Word {
     name: "sync",
     help: "With --journal: answers wait until the disk has what they tell",
     given: Given::AloneWith("journal"),
-    range: None,
+    takes: Takes::Text,
 };
 
 // Whether a session that can't be kept stops the others too.
@@ -190,7 +214,7 @@ const STRICT_SESSIONS: Word = Word {
     name: "strict",
     help: "With --journal: a session that can't be kept ends the server, or keeps it from starting",
     given: Given::AloneWith("journal"),
-    range: None,
+    takes: Takes::Text,
 };
 
 // How long a connection may be silent.
@@ -198,7 +222,7 @@ const IDLE: Word = Word {
     name: "idle",
     help: "Ends a connection that sends nothing for so many seconds, 1 to 86400",
     given: Given::Sometimes,
-    range: Some(IDLE_SECONDS),
+    takes: Takes::Number(IDLE_SECONDS),
 };
 
 // How long an answer may wait.
@@ -206,7 +230,7 @@ const WAIT: Word = Word {
     name: "wait",
     help: "Answers may wait for what others do, where their lines say so, for so many seconds at most, 1 to 3600",
     given: Given::Sometimes,
-    range: Some(WAIT_SECONDS),
+    takes: Takes::Number(WAIT_SECONDS),
 };
 
 // How many sessions are open at once.
@@ -232,7 +256,7 @@ const OPEN: Word = Word {
     name: "open",
     help: "How many sessions are open at once at most, 1 to 1048576; 10000, if it isn't given",
     given: Given::Sometimes,
-    range: Some(OPEN_COUNTS),
+    takes: Takes::Number(OPEN_COUNTS),
 };
 
 // How long a session stays open.
@@ -240,7 +264,7 @@ const KEEP: Word = Word {
     name: "keep",
     help: "With --journal: for how many seconds a session stays open in which nobody is, 1 to 86400; 10, if it isn't given",
     given: Given::SometimesWith("journal"),
-    range: Some(KEEP_SECONDS),
+    takes: Takes::Number(KEEP_SECONDS),
 };
 
 // How many percent of the entries of its session each role may make.
@@ -260,7 +284,7 @@ const SHARE: Word = Word {
     name: "share",
     help: "How many percent of the 100000 entries of its session each role may make, 1 to 100; 100, if it isn't given",
     given: Given::Sometimes,
-    range: Some(SHARES),
+    takes: Takes::Number(SHARES),
 };
 
 // How much of a hosted one.
@@ -268,7 +292,7 @@ const SHARE_OF_HOST: Word = Word {
     name: "share",
     help: "How many percent of the 100000 entries of its session each role may make, 1 to 100; 50, if it isn't given",
     given: Given::Sometimes,
-    range: Some(SHARES),
+    takes: Takes::Number(SHARES),
 };
 
 // A command of the program, the words that have to follow it, and its options. Of some options one at least is given.
@@ -286,21 +310,21 @@ const FORMS: &[Form] = &[
         name: "check",
         about: "Shows each role's local type",
         words: &[FILE],
-        options: &[],
+        options: &[MERGING],
         some_of: &[],
     },
     Form {
         name: "run",
         about: "Runs a script and prints the answers",
         words: &[FILE, SCRIPT],
-        options: &[STRICT],
+        options: &[STRICT, MERGING],
         some_of: &[],
     },
     Form {
         name: "same",
         about: "Says whether two scripts come to the same",
         words: &[FILE, FIRST, SECOND],
-        options: &[],
+        options: &[MERGING],
         some_of: &[],
     },
     Form {
@@ -319,6 +343,7 @@ const FORMS: &[Form] = &[
             IDLE,
             WAIT,
             SHARE,
+            MERGING,
         ],
         some_of: &["connections", "endless", "journal"],
     },
@@ -326,7 +351,17 @@ const FORMS: &[Form] = &[
         name: "host",
         about: "Opens each session that somebody joins",
         words: &[FILE],
-        options: &[PORT, JOURNAL, SYNC, KEEP, OPEN, IDLE, WAIT, SHARE_OF_HOST],
+        options: &[
+            PORT,
+            JOURNAL,
+            SYNC,
+            KEEP,
+            OPEN,
+            IDLE,
+            WAIT,
+            SHARE_OF_HOST,
+            MERGING,
+        ],
         some_of: &[],
     },
 ];
@@ -336,13 +371,14 @@ fn ranged<'a>(argument: Arg<'a>, range: Range) -> Arg<'a> {
     argument.value_parser(ValueParser::Unsigned(range.least, range.most))
 }
 
-// The argument that a `Word` describes: its name, help and range, and whether it is required or takes no value. What
+// The argument that a `Word` describes: its name, help and what it may be, and whether it is required or takes no value. What
 // makes it an option, and on which other option it depends, is set by `option`.
 fn argument<'a>(alloc: Global, word: &Word) -> Arg<'a> {
     let argument = Arg::new(alloc, word.name).help(word.help);
-    let argument = match word.range {
-        Some(range) => ranged(argument, range),
-        None => argument,
+    let argument = match word.takes {
+        Takes::Text => argument,
+        Takes::Number(range) => ranged(argument, range),
+        Takes::OneOf(words) => argument.value_parser(ValueParser::Names(words)),
     };
     match word.given {
         Given::Always => argument.required(true),
@@ -450,8 +486,19 @@ fn journal_in<'a>(found: &ArgMatches<'a>, strict: bool) -> Option<JournalFolder<
     })
 }
 
+// The file with the protocol, and the merging of `--merging`, which is plain where it isn't given; none where a word is
+// missing, which clap has seen to.
+fn file_in<'a>(found: &ArgMatches<'a>) -> Option<ProtocolFile<'a>> {
+    let name = found.get_str("FILE")?;
+    let merging = match found.get_str("merging") {
+        Some(FULL) => Merging::Full,
+        _ => Merging::Plain,
+    };
+    Some(ProtocolFile { name, merging })
+}
+
 // The order to serve the file, with what the options were given. The port is below 2^16 by its range.
-fn serve_in<'a>(file: &'a str, found: &ArgMatches<'a>) -> Option<Order<'a>>
+fn serve_in<'a>(file: ProtocolFile<'a>, found: &ArgMatches<'a>) -> Option<Order<'a>>
     ensures { IfSome result IsInRange }
 {
     let port = number_in(found, "port", PORTS)?;
@@ -478,7 +525,7 @@ fn serve_in<'a>(file: &'a str, found: &ArgMatches<'a>) -> Option<Order<'a>>
 }
 
 // The order to host sessions of the file's protocol, with what the options were given.
-fn host_in<'a>(file: &'a str, found: &ArgMatches<'a>) -> Option<Order<'a>>
+fn host_in<'a>(file: ProtocolFile<'a>, found: &ArgMatches<'a>) -> Option<Order<'a>>
     ensures { IfSome result IsInRange }
 {
     let port = number_in(found, "port", PORTS)?;
@@ -504,7 +551,7 @@ fn host_in<'a>(file: &'a str, found: &ArgMatches<'a>) -> Option<Order<'a>>
 
 // The task to compare two scripts on sessions of the file's protocol; none where a word is missing, which clap has seen
 // to.
-fn same_in<'a>(file: &'a str, found: &ArgMatches<'a>) -> Option<Task<'a>> {
+fn same_in<'a>(file: ProtocolFile<'a>, found: &ArgMatches<'a>) -> Option<Task<'a>> {
     let first = found.get_str("FIRST")?;
     let second = found.get_str("SECOND")?;
     Some(Task::Same {
@@ -515,7 +562,7 @@ fn same_in<'a>(file: &'a str, found: &ArgMatches<'a>) -> Option<Task<'a>> {
 }
 
 // The task to run a script on a session of the file's protocol; none where a word is missing, which clap has seen to.
-fn run_in<'a>(file: &'a str, found: &ArgMatches<'a>) -> Option<Task<'a>> {
+fn run_in<'a>(file: ProtocolFile<'a>, found: &ArgMatches<'a>) -> Option<Task<'a>> {
     let script = found.get_str("SCRIPT")?;
     let strict = found.get_flag("strict");
     Some(Task::Run {
@@ -526,7 +573,7 @@ fn run_in<'a>(file: &'a str, found: &ArgMatches<'a>) -> Option<Task<'a>> {
 }
 
 // The task of that command; none of `serve` and `host`, which are orders of their own, or of an unknown one.
-fn task_in<'a>(command: &str, file: &'a str, found: &ArgMatches<'a>) -> Option<Task<'a>> {
+fn task_in<'a>(command: &str, file: ProtocolFile<'a>, found: &ArgMatches<'a>) -> Option<Task<'a>> {
     match command {
         "check" => Some(Task::Check { file }),
         "run" => run_in(file, found),
@@ -541,7 +588,7 @@ fn order_in<'a>(matches: &ArgMatches<'a>) -> Option<Order<'a>>
     ensures { IfSome result IsInRange }
 {
     let (command, found) = matches.subcommand()?;
-    let file = found.get_str("FILE")?;
+    let file = file_in(found)?;
     match command {
         "serve" => return serve_in(file, found),
         "host" => return host_in(file, found),

@@ -1,5 +1,5 @@
--- Proves the law `merging_is_equality`, by the lemmas of Merging.
-use Rattle.mps_local.proofs.Merging.{merged_are, are_merged}
+-- Proves the law `merging_is_equality`, by the lemmas of Merged.
+use Rattle.mps_local.proofs.Merged.{merged_are, are_merged}
 use Rattle.mps_local.proofs.laws.merging_is_equality.Goals as goal
 
 pub returns : goal.returns

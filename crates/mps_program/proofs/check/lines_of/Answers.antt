@@ -22,5 +22,5 @@ write_lines-requires-clause-known c =
     let types = map plain o.types.items in
     subst (λ (given : List Local). AllByRecursion (AllPeers (λ peer. peer < length o.roles)) (map plain given)) (sym c.deref.ensures.value)
     (subst (λ (names : List (List ℕ)). AllByRecursion (AllPeers (λ peer. peer < length names)) types) (sym o.named)
-    (at_each (AllPeers (λ peer. peer < length roles)) types (λ k t at. known_peers roles k (global_type o.protocol.body) t o.faultless
+    (at_each (AllPeers (λ peer. peer < length roles)) types (λ k t at. known_peers o.merging roles k (global_type o.protocol.body) t o.faultless
     (o.projected.each k (omega (arith, slice_get_within types k t at, o.projected.count)) ∙ at))))

@@ -11,6 +11,6 @@ returns-clause-read g c =
     let value = c.as_slice.ensures.value in
     let e = c.in_ok-of_text.ensures in
     let o = c.in_ok-of_text.field-0 in
-    given_opening _ _ c.in_ok-text.text.items o c.in_ok-text.ensures.bytes c.in_ok-text.ensures.whole
-    (subst (λ (t : List ℕ). AreTypesOf t o.roles (map plain o.types.items)) value e.types)
+    given_opening c.args.merging _ _ c.in_ok-text.text.items o c.in_ok-text.ensures.bytes c.in_ok-text.ensures.whole e.merging
+    (subst (λ (t : List ℕ). AreTypesOf c.args.merging t o.roles (map plain o.types.items)) value e.types)
     (subst (λ (t : List ℕ). IsProtocolText t o.protocol.roles.items (global_type o.protocol.body)) value e.read)

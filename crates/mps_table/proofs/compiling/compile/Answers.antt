@@ -11,6 +11,6 @@ pub table_of-requires-clause-guarded : goal.table_of-requires-clause-guarded
 table_of-requires-clause-guarded c = (fine_so (plain c.args.tree.now) (sym c.in-None.ensures)).guarded
 
 pub returns-in-Some-clause-projected : goal.returns-in-Some-clause-projected
-returns-in-Some-clause-projected c roles role protocol none e =
-    let no_fault = c.in-Some.ensures ∙ faultless roles role protocol (plain c.args.tree.now) none e in
+returns-in-Some-clause-projected c merging roles role protocol none e =
+    let no_fault = c.in-Some.ensures ∙ faultless merging roles role protocol (plain c.args.tree.now) none e in
     absurd cc

@@ -1,5 +1,6 @@
 -- `is_untried` may call `same`.
 use Rattle.mps_global.specs.Global.{plain}
+use Rattle.mps_local.specs.declared.merging.Merging.TheVariants.{Plain}
 use Rattle.mps_session.proofs.SameProjections.{one_projection}
 use Rattle.mps_test_sessions.proofs.comparisons.is_untried.Goals as goal
 
@@ -8,5 +9,5 @@ pub same-requires : goal.same-requires
 same-requires g c =
     let protocol = c.args.protocol.now in
     record {
-      types = one_projection protocol.roles.items (plain protocol.body) _ _ c.requires c.after-untried.ensures;
+      types = one_projection Plain protocol.roles.items (plain protocol.body) _ _ c.requires c.after-untried.ensures;
     }
