@@ -28,7 +28,7 @@ use thiserror::Error;
 pub enum ProjectFault {
     /// No type of the role stands for each branch of a choice of others. Choices are counted in
     /// preorder, from 0.
-    #[error("the branches of choice {choice} differ for a role that takes no part in it")]
+    #[error("no one type of a role stands for all branches of choice {choice}")]
     Unmergeable { role: Role, choice: usize },
     #[error("out of memory")]
     Memory,

@@ -23,7 +23,7 @@ pub enum Fault {
     Protocol(GlobalFault),
     /// The role, the first such, has no one type for the branches of that choice of others. Choices are counted in
     /// preorder, from 0.
-    #[error("the branches of choice {choice} differ for role {}, which takes no part in it", role.index())]
+    #[error("no one type of role {} stands for all branches of choice {choice}", role.index())]
     Projection {
         role: Role,
         /// The role's name.

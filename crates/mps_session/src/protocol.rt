@@ -26,7 +26,7 @@ pub enum ProtocolFault {
     Global(GlobalFault),
     /// The role, the first such, has no one type for the branches of a choice of others. Choices are
     /// counted in preorder, from 0.
-    #[error("the branches of choice {choice} differ for role {}, which takes no part in it", role.index())]
+    #[error("no one type of role {} stands for all branches of choice {choice}", role.index())]
     Unmergeable { role: Role, choice: usize },
     #[error("out of memory")]
     Memory,
