@@ -5,3 +5,4 @@ mod Crossing
 mod Ends
 mod Foreseeing
 mod Opening
+mod Faithful

@@ -1,4 +1,5 @@
 pub mod Crossing
 pub mod Diaries
 pub mod Embedded
+pub mod Faithful
 pub mod Kept

@@ -264,7 +264,16 @@ impl Disk for JournalDisk {
         if !self.about.sync {
             return true;
         }
-        synced(noted(&self.newest, self.file.sync_data()), &self.unsynced).is_ok()
+        let stored = noted(&self.newest, self.file.sync_data());
+        // a recorder never shows what it doesn't have
+        if self.file.is_recorder() {
+            return stored.is_ok();
+        }
+        synced(stored, &self.unsynced).is_ok()
+    }
+
+    fn confirm(&self) -> bool {
+        noted(&self.newest, self.file.confirm()).is_ok()
     }
 
     fn lost<R: Eprint>(&self, rt: &R) {

@@ -10,6 +10,7 @@
 pub mod descriptor;
 pub mod journal_file;
 pub mod own_file;
+pub mod recorder;
 pub mod rest;
 
 pub use descriptor::Descriptor;
@@ -17,4 +18,5 @@ pub use journal_file::{
     About, FileKeeper, JournalDisk, JournalFile, LOOK, Note, Unsynced, held, parted, store_name,
 };
 pub use own_file::OwnFile;
+pub use recorder::Recorder;
 pub use rest::{cut_off, marked, restore, torn};

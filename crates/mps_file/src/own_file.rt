@@ -1,7 +1,8 @@
-//! The file of a journal, however it was opened.
-ghost use Rattle.std.specs.Prelude.{◌≤◌, IfOk, length};
+//! The file of a journal, however it was opened, or what keeps the journal in a file's place.
+ghost use Rattle.std.specs.Prelude.{◌≤◌, ⊥, IfOk, length};
 
 use crate::descriptor::Descriptor;
+use crate::recorder::Recorder;
 use std::fs::File;
 use std::io;
 use std::io::{ErrorKind, Read, Write};
@@ -10,11 +11,20 @@ use std::os::unix::fs::{FileExt, MetadataExt};
 // How often a call is tried again that a signal interrupts.
 const INTERRUPTS: u64 = 1_000;
 
-/// An open file: one of std, as a server opens it, or one by its descriptor, as a room in a caller's own process does.
+/// An open file: one of std, as a server opens it, or one by its descriptor, as a room in a caller's own process does. Or a
+/// recorder, which keeps a journal as a file would.
 #[derive(Drop)]
 pub enum OwnFile {
     Std(File),
     Raw(Descriptor),
+    Recorder(Recorder),
+}
+
+// What a recorder isn't asked to do.
+fn unsupported<T>() -> io::Result<T>
+    ensures { IfOk result (λ _. ⊥) }
+{
+    Err(io::Error::from(ErrorKind::Unsupported))
 }
 
 impl OwnFile {
@@ -23,14 +33,38 @@ impl OwnFile {
         match self {
             OwnFile::Std(file) => Ok(file.metadata()?.nlink() > 0),
             OwnFile::Raw(file) => file.has_name(),
+            OwnFile::Recorder(_) => Ok(true),
         }
     }
 
-    /// How many bytes it has.
+    /// Whether whoever keeps it says that it had nothing before: a recorder does. A file that has nothing may have been lost.
+    pub fn is_known_new(&self) -> bool {
+        match self {
+            OwnFile::Std(_) | OwnFile::Raw(_) => false,
+            OwnFile::Recorder(recorder) => recorder.given() == 0,
+        }
+    }
+
+    /// Whether a recorder keeps it.
+    pub fn is_recorder(&self) -> bool {
+        matches!(self, OwnFile::Recorder(_))
+    }
+
+    /// Asks whether what was written is here still. Of a file that is so, since it is locked; a recorder may have handed the
+    /// session over to another server.
+    pub fn confirm(&self) -> io::Result<()> {
+        match self {
+            OwnFile::Std(_) | OwnFile::Raw(_) => Ok(()),
+            OwnFile::Recorder(recorder) => recorder.confirm(),
+        }
+    }
+
+    /// How many bytes it has; of a recorder, how many it gave.
     pub fn len(&self) -> io::Result<u64> {
         match self {
             OwnFile::Std(file) => Ok(file.metadata()?.len()),
             OwnFile::Raw(file) => file.len(),
+            OwnFile::Recorder(recorder) => Ok(recorder.given()),
         }
     }
 
@@ -39,14 +73,16 @@ impl OwnFile {
         match self {
             OwnFile::Std(file) => file.set_len(len),
             OwnFile::Raw(file) => file.set_len(len),
+            OwnFile::Recorder(_) => unsupported(),
         }
     }
 
-    /// Has the disk store all of it.
+    /// Has the disk store all of it. Of what a recorder keeps nothing else has to be stored than what `sync_data` stores.
     pub fn sync_all(&self) -> io::Result<()> {
         match self {
             OwnFile::Std(file) => file.sync_all(),
             OwnFile::Raw(file) => file.sync_all(),
+            OwnFile::Recorder(_) => Ok(()),
         }
     }
 
@@ -55,13 +91,14 @@ impl OwnFile {
         match self {
             OwnFile::Std(file) => file.sync_data(),
             OwnFile::Raw(file) => file.sync_data(),
+            OwnFile::Recorder(recorder) => recorder.confirm(),
         }
     }
 
     /// The folder that has it, where it was opened by its descriptor: those of files of std a server sees to.
     pub fn folder(&self) -> io::Result<Option<Descriptor>> {
         match self {
-            OwnFile::Std(_) => Ok(None),
+            OwnFile::Std(_) | OwnFile::Recorder(_) => Ok(None),
             OwnFile::Raw(file) => Ok(Some(file.folder()?)),
         }
     }
@@ -73,6 +110,7 @@ impl OwnFile {
         match self {
             OwnFile::Std(file) => file.read_at(buf, at),
             OwnFile::Raw(file) => file.read_at(buf, at),
+            OwnFile::Recorder(_) => unsupported(),
         }
     }
 
@@ -100,6 +138,7 @@ impl OwnFile {
         match self {
             OwnFile::Std(file) => read_std(file, buf),
             OwnFile::Raw(file) => read_raw(file, buf),
+            OwnFile::Recorder(recorder) => recorder.read_once(buf),
         }
     }
 
@@ -116,6 +155,7 @@ impl OwnFile {
                 let mut file = file;
                 file.write(buf)
             }
+            OwnFile::Recorder(recorder) => recorder.write_once(buf),
         }
     }
 }

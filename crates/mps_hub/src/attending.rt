@@ -363,7 +363,9 @@ impl<
                     bells: self.bells_of(place),
                     inner: Held { rt, pass },
                 };
-                let hold = Hold::new(rt, keeper);
+                let mut hold = Hold::new(rt, keeper);
+                // else a server whose session another one took over might tell what isn't so any more
+                hold.confirm();
                 let mut guest = Guest::new(self.gate, connection, hold, sharing, line);
                 let joined = Reply::Joined { session, name };
                 let mut vigil = RoleVigil::new(rt, self.desk.waits(), place, role, stream);

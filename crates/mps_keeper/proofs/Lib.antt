@@ -7,3 +7,4 @@ pub mod Rerunning
 pub mod Restarting
 pub mod Sealed
 mod Guests
+pub mod Keeping

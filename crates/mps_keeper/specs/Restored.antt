@@ -1,5 +1,5 @@
 -- What restoring does to a session.
-use Rattle.std.specs.Prelude.{◌≡◌, ◌⊎◌, ℕ, ◌+◌, ⊤, false, List, [], ◌∷◌, ◌++◌, Option, None, Some, get_or, slice_set}
+use Rattle.std.specs.Prelude.{◌≡◌, ◌⊎◌, ℕ, ◌+◌, ⊤, true, false, List, [], ◌∷◌, ◌++◌, Option, None, Some, get_or, slice_set}
 use Rattle.mps_command.specs.declared.answer.Answer.{Answer}
 use Rattle.mps_command.specs.declared.command.Command.{Command}
 use Rattle.mps_line.specs.JournalLines.{SpellsJournalLine}
@@ -18,6 +18,11 @@ pub record Standing : Type 0 where
 
 abbrev pub standing_of : RestoredRoom → Standing
 standing_of r = record { journal = r.room.journal; newest = newest_of r.numbers.items }
+
+-- what a role keeps, if it keeps something, is the answer to an accepted command
+abbrev pub KeepsAccepted : Option Numbered → Type 0
+KeepsAccepted None = ⊤
+KeepsAccepted (Some newest) = is_accepted newest.answer ≡ true
 
 -- a command may have this number, or none: it is the one after that of its role's newest
 abbrev pub IsNext : Option Numbered → Option ℕ → Type 0

@@ -26,6 +26,9 @@ pub trait Disk {
     /// Says whether all that was written is stored.
     fn sync(&self) -> bool;
 
+    /// Says whether what was written is stored here still, and no other process has taken it over.
+    fn confirm(&self) -> bool;
+
     /// Is called once, when the first line is lost, to tell whoever looks after the server.
     fn lost<R: Eprint>(&self, rt: &R);
 }
@@ -34,6 +37,11 @@ pub trait Disk {
 impl Disk for File {
     fn sync(&self) -> bool {
         self.sync_data().is_ok()
+    }
+
+    // whoever opened it has locked it
+    fn confirm(&self) -> bool {
+        true
     }
 
     fn lost<R: Eprint>(&self, _rt: &R) {}
@@ -274,6 +282,21 @@ impl<W: Sink, D: Disk> Keeper<W, D> {
         }
         recorded.is_some()
     }
+
+    // Asks the disk whether the lines are here still, while nobody writes. Where they aren't nothing more is recorded. Says
+    // whether none is lost.
+    fn confirm<R: Wait + Eprint>(&self, rt: &R) -> bool {
+        let Some(disk) = &self.disk else {
+            return !self.is_broken();
+        };
+        let mut writing = self.writing.lock(rt);
+        let is_here = !self.is_broken() && disk.confirm();
+        if !is_here {
+            writing.book.lose();
+            self.lose(rt);
+        }
+        is_here
+    }
 }
 
 /// One connection's hold of a keeper, or of none.
@@ -308,6 +331,25 @@ impl<'k, R: Wait, W: Sink, D> Hold<'k, R, W, D> {
         match self.keeper {
             Some(keeper) => keeper.make_space(self.rt, role),
             None => Ok(()),
+        }
+    }
+}
+
+impl<'k, R: Wait + Eprint, W: Sink, D: Disk> Hold<'k, R, W, D> {
+    ghost use Rattle.mps_keeper.specs.Holds.{keeper_of, records_of, whole_of};
+
+    /// Has nothing told from here on, unless what was recorded is here still. Where no other process can take it over, as a
+    /// locked file, that is so as long as no line is lost.
+    pub fn confirm(&mut self)
+        ensures keeper { keeper_of self.new ≡ keeper_of self.old }
+        ensures records { records_of self.new ≡ records_of self.old }
+        ensures lost { whole_of self.old ≡ false → whole_of self.new ≡ false }
+        ensures unrecorded { records_of self.old ≡ false → whole_of self.new ≡ whole_of self.old }
+    {
+        if let Some(keeper) = self.keeper
+            && !keeper.confirm(self.rt)
+        {
+            self.whole = false;
         }
     }
 }

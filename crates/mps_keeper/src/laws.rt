@@ -1,5 +1,5 @@
 //! Laws of a recorded journal.
-ghost use Rattle.std.specs.Prelude.{◌≡◌, ◌≢◌, ℕ, List, [], ◌∷◌, ◌++◌, ◌⊎◌, Bool, Option, true, false, ◌*◌, ◌≤◌};
+ghost use Rattle.std.specs.Prelude.{◌≡◌, ◌≢◌, ℕ, List, [], ◌∷◌, ◌++◌, ◌⊎◌, All, Bool, Option, true, false, ◌*◌, ◌≤◌};
 ghost use Rattle.mps_command.specs.declared.command.Command.{Command};
 ghost use Rattle.mps_command.specs.declared.answer.Answer.{Answer};
 ghost use Rattle.mps_command.specs.declared.answer.Answer.TheVariants.{Refused};
@@ -13,7 +13,7 @@ ghost use Rattle.mps_keeper.specs.Chains.{ReadsAll};
 ghost use Rattle.mps_keeper.specs.declared.chain.Chain.{Chain};
 ghost use Rattle.mps_keeper.specs.Restarted.{newest_after};
 ghost use Rattle.mps_seal.specs.Seals.{all_sealed, seal_after};
-ghost use Rattle.mps_keeper.specs.Restored.{LinesRestored, Standing};
+ghost use Rattle.mps_keeper.specs.Restored.{KeepsAccepted, LinesRestored, Standing};
 ghost use Rattle.mps_keeper.specs.Trails.{RecordedOn, SpellEntries, WrittenIsRecorded};
 ghost use Rattle.mps_keeper.specs.declared.guest.Guest.{Guest as GuestOf};
 ghost use Rattle.mps_keeper.specs.declared.keeper.TheConstants.{LONGEST_LINE};
@@ -43,6 +43,14 @@ pub fn a_legal_journal_runs_again()
     ensures journal { (names : List (List ℕ)) (types : List LocalType) (before : List Entry) (e : Entry)
         (after : List Entry)
         → IsLegal names types (before ++ e ∷ after) → grown before e.role e.command e.answer ≡ before ++ e ∷ [] }
+{}
+
+/// Lines that restore a session leave each role the answer to an accepted command, or none, if it had such before.
+pub fn restored_roles_keep_no_refusal()
+    ensures { (names : List (List ℕ)) (types : List LocalType) (before : Standing) (lines : List (List ℕ))
+        (after : Standing)
+        → All KeepsAccepted before.newest → LinesRestored names types before lines after
+        → All KeepsAccepted after.newest }
 {}
 
 /// Where nothing was lost, what the keeper took while a conversation was answered, whose lines may wait or may not, are the lines of the commands that

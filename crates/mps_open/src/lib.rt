@@ -7,6 +7,7 @@
 
 pub mod choice;
 pub mod fault;
+pub mod laws;
 pub mod opening;
 
 pub use choice::choice_text;

@@ -1,5 +1,6 @@
 -- How the sessions of a server may fail to be had from a folder.
-use Rattle.std.specs.Prelude.{◌≡◌, ◌⊎◌, ⊤, ℕ, List, Option, None, Some}
+use Rattle.std.specs.Prelude.{◌≡◌, ◌<◌, ◌≤◌, ◌^◌, ◌⊎◌, ⊤, ℕ, List, Option, None, Some, codes}
+use Rattle.mps_file.specs.Recorders.{IsNumberAfter}
 use Rattle.mps_hub.specs.Places.{IsSession}
 use Rattle.mps_keeper.specs.declared.restore.RestoreFault.{RestoreFault}
 use Rattle.mps_keeper.specs.declared.restore.RestoreFault.TheVariants.{Read as NotRead, Memory as OutOfMemory}
@@ -7,6 +8,12 @@ use Rattle.mps_keeper.specs.declared.restore.RestoreFault.TheVariants.{Changed, 
 use Rattle.mps_program.specs.declared.faults.ToolFault.{ToolFault}
 use Rattle.mps_program.specs.declared.faults.ToolFault.TheVariants.{File, JournalFile, JournalLine, JournalProtocol}
 use Rattle.mps_program.specs.declared.faults.ToolFault.TheVariants.{JournalLost, Memory}
+
+-- the word stands for the recorder at this port, and for no folder
+pub record NamesRecorder (word : List ℕ) (port : ℕ) : Type 0 where
+  pub spelled : IsNumberAfter (codes "tcp:") word port
+  pub least : 1 ≤ port
+  pub most : port < 2 ^ 16
 
 -- how the folder itself may fail: it can't be used, it is of another protocol, or memory ran out
 abbrev pub IsFolderFault : List ℕ → ToolFault → Type 0

@@ -1,6 +1,6 @@
-//! The folder that records sessions: its protocol, and which of its sessions have begun.
-ghost use Rattle.std.specs.Prelude.{IfErr};
-ghost use Rattle.mps_program.specs.Journals.{IsFolderFault};
+//! The folder that records sessions: its protocol, and which of its sessions have begun; or what does in its place.
+ghost use Rattle.std.specs.Prelude.{◌≡◌, ◌≢◌, ◌++◌, ℕ, List, codes, IfErr, IfOk, IfSome, IfNone};
+ghost use Rattle.mps_program.specs.Journals.{IsFolderFault, NamesRecorder};
 
 use crate::faults::ToolFault;
 use crate::own_files::OwnFiles;
@@ -146,6 +146,56 @@ pub(crate) fn sync_folders<R: Files<File = File>>(
     File::open(rt, parent)?.sync_all()
 }
 
+/// The port of the recorder that the word of `--journal` names, `tcp:PORT`; none where it names a folder. Another word that
+/// begins so is refused, since whoever wrote it wants no folder of that name.
+pub(crate) fn recorder_of<'a>(folder: &'a str) -> Result<Option<u16>, ToolFault<'a>>
+    ensures recorder { IfOk result (λ r. IfSome r (NamesRecorder folder.now)) }
+    ensures folder { IfOk result (λ r. IfNone r ((rest : List ℕ) → folder.now ≢ codes "tcp:" ++ rest)) }
+    ensures fault { IfErr result (IsFolderFault folder.now) }
+{
+    let Some(digits) = folder.as_bytes().strip_prefix(b"tcp:") else {
+        return Ok(None);
+    };
+    match read_number(digits) {
+        Some(port) if 1 <= port && port < 65_536 => Ok(Some(port as u16)),
+        _ => Err(unusable(folder, io::Error::from(ErrorKind::InvalidInput))),
+    }
+}
+
+/// What keeps a server's sessions: a folder, with those of its sessions that have begun, or the recorder at that port.
+#[derive(Drop)]
+pub(crate) enum Keeping {
+    Folder(Begun),
+    Recorder(u16),
+}
+
+impl Keeping {
+    /// The recorder's port, if one keeps them.
+    pub(crate) fn recorder(&self) -> Option<u16> {
+        match self {
+            Keeping::Folder(_) => None,
+            Keeping::Recorder(port) => Some(*port),
+        }
+    }
+
+    /// What has to be noted before the session's first entry is written; nothing where it has begun, or a recorder keeps it,
+    /// which knows.
+    pub(crate) fn note(&mut self, session: u64, unsynced: &Unsynced) -> io::Result<Option<Note>> {
+        match self {
+            Keeping::Folder(begun) => begun.note(session, unsynced),
+            Keeping::Recorder(_) => Ok(None),
+        }
+    }
+
+    /// Whether the session surely has no entry, so that its file can go.
+    pub(crate) fn is_unbegun(&mut self, session: u64) -> bool {
+        match self {
+            Keeping::Folder(begun) => begun.has(session).is_ok_and(|has| !has),
+            Keeping::Recorder(_) => false,
+        }
+    }
+}
+
 // What a line of the file `sessions` says of a session: that it has begun, or was removed after that.
 fn noted(line: &[u8]) -> Option<(u64, bool)> {
     if let Some(number) = line.strip_suffix(b" begun") {
@@ -236,14 +286,14 @@ impl Begun {
         Ok(())
     }
 
-    /// Whether the session has begun.
-    pub(crate) fn has(&mut self, session: u64) -> io::Result<bool> {
+    // Whether the session has begun.
+    fn has(&mut self, session: u64) -> io::Result<bool> {
         self.refresh()?;
         Ok(self.sessions.contains(&session))
     }
 
-    /// What has to be noted before the session's first entry is written; nothing where it has begun.
-    pub(crate) fn note(&mut self, session: u64, unsynced: &Unsynced) -> io::Result<Option<Note>> {
+    // What has to be noted before the session's first entry is written; nothing where it has begun.
+    fn note(&mut self, session: u64, unsynced: &Unsynced) -> io::Result<Option<Note>> {
         if self.has(session)? {
             return Ok(None);
         }

@@ -7,7 +7,7 @@ ghost use Rattle.mps_program.specs.Hosted.{IsHostFault};
 ghost use Rattle.mps_program.specs.Journals.{IsFolderFault, IsOneFault};
 
 use crate::faults::{ToolFault, told};
-use crate::folder::Begun;
+use crate::folder::Keeping;
 use crate::journals::Folder;
 use crate::load::load_file;
 use crate::own_files::OwnFiles;
@@ -46,11 +46,11 @@ pub struct HostService<'a> {
     pub journal: Option<JournalFolder<'a>>,
 }
 
-// Where the sessions are recorded, and which of them have begun.
+// Where the sessions are recorded, and what is known of them there.
 #[derive(Drop)]
 struct Records<'a> {
     journal: JournalFolder<'a>,
-    begun: Mutex<Begun>,
+    keeping: Mutex<Keeping>,
 }
 
 // What all sessions have in common, over what opens their files.
@@ -64,7 +64,11 @@ struct House<'o, 'a, F> {
     verbose: bool,
 }
 
-impl<'o, 'a, F: OwnFiles + AllocGlobal + Eprint + Wait> House<'o, 'a, F> {
+impl<
+    'o,
+    'a,
+    F: OwnFiles + AllocGlobal + Eprint + Net<Listener = TcpListener, Stream = TcpStream> + Wait,
+> House<'o, 'a, F> {
     // The folder with that journal.
     fn folder(&self, journal: JournalFolder<'a>) -> Folder<'o, 'a> {
         Folder {
@@ -88,10 +92,11 @@ impl<'o, 'a, F: OwnFiles + AllocGlobal + Eprint + Wait> House<'o, 'a, F> {
         ensures fault { IfErr result (IsOneFault session) }
     {
         let folder = self.folder(records.journal);
-        let mut begun = records.begun.lock(self.rt);
-        let note = folder.note(&mut begun, session, &unsynced)?;
-        drop(begun);
-        let file = folder.open(self.rt, session)?;
+        let mut keeping = records.keeping.lock(self.rt);
+        let note = folder.note(&mut keeping, session, &unsynced)?;
+        let recorder = keeping.recorder();
+        drop(keeping);
+        let file = folder.open(self.rt, recorder, session)?;
         folder.open_one(self.rt, session, file, note, unsynced)
     }
 
@@ -149,11 +154,26 @@ fn is_elsewhere(fault: &ToolFault<'_>) -> bool {
     }
 }
 
-// What those are told who wait for a session that can't be opened.
+// Whether it couldn't be asked for the session's file: its recorder isn't there, or went away.
+fn is_unreached(fault: &ToolFault<'_>) -> bool {
+    match fault {
+        ToolFault::JournalFile { why: Some(why), .. } => matches!(
+            why.kind(),
+            ErrorKind::ConnectionRefused
+                | ErrorKind::ConnectionReset
+                | ErrorKind::BrokenPipe
+                | ErrorKind::UnexpectedEof
+        ),
+        _ => false,
+    }
+}
+
+// What those are told who wait for a session that can't be opened. Where its recorder wasn't reached another server may have
+// it by now.
 fn reply_to(fault: &ToolFault<'_>) -> Reply
     ensures { code_of result ≢ 0 }
 {
-    if is_elsewhere(fault) {
+    if is_elsewhere(fault) || is_unreached(fault) {
         return Reply::Elsewhere;
     }
     match fault {
@@ -162,8 +182,11 @@ fn reply_to(fault: &ToolFault<'_>) -> Reply
     }
 }
 
-impl<'o, 'a, F: OwnFiles + AllocGlobal + Eprint + Wait> Host<OverWrite<JournalFile>, JournalDisk>
-    for House<'o, 'a, F> {
+impl<
+    'o,
+    'a,
+    F: OwnFiles + AllocGlobal + Eprint + Net<Listener = TcpListener, Stream = TcpStream> + Wait,
+> Host<OverWrite<JournalFile>, JournalDisk> for House<'o, 'a, F> {
     fn roles(&self) -> &Roles {
         &self.opening.roles
     }
@@ -197,9 +220,9 @@ impl<'o, 'a, F: OwnFiles + AllocGlobal + Eprint + Wait> Host<OverWrite<JournalFi
         if entries > 0 {
             return;
         }
-        let mut begun = records.begun.lock(self.rt);
+        let mut keeping = records.keeping.lock(self.rt);
         // one that has begun keeps its file, also where its first entry wasn't written
-        if let Ok(false) = begun.has(session) {
+        if keeping.is_unbegun(session) {
             let _gone = self.folder(records.journal).remove(self.rt, session);
         }
     }
@@ -224,7 +247,7 @@ fn records_of<'a, R: Files<File = File> + OwnFiles + AllocGlobal>(
     };
     Ok(Records {
         journal,
-        begun: Mutex::new(folder.claim(rt)?),
+        keeping: Mutex::new(folder.claim(rt)?),
     })
 }
 

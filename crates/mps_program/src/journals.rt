@@ -1,4 +1,4 @@
-//! The files that record a server's sessions.
+//! The files that record a server's sessions, or the recorder that does in their place.
 ghost use Rattle.std.specs.Prelude.{◌≡◌, ◌+◌, ◌<◌, ◌≤◌, ◌^◌, ℕ, Ok, IfErr, IfOk, IfSome, OnOk, All, length, map};
 ghost use Rattle.mps_hub.specs.Places.{IsSession};
 ghost use Rattle.mps_local.specs.Local.{plain};
@@ -9,13 +9,15 @@ ghost use Rattle.mps_program.specs.declared.faults.ToolFault.TheVariants.{Memory
 
 use crate::faults::ToolFault;
 use crate::folder::{
-    Begun, has_protocol, make_folder, names, open_own, sync_folders, unusable, write_whole,
+    Begun, Keeping, has_protocol, make_folder, names, open_own, recorder_of, sync_folders,
+    unusable, write_whole,
 };
 use crate::own_files::OwnFiles;
 use crate::rooms::{room_of, rooms_of};
 use mps_dev::OverWrite;
 use mps_file::{
-    About, FileKeeper, Note, OwnFile, Unsynced, cut_off, held, marked, parted, restore, torn,
+    About, FileKeeper, Note, OwnFile, Recorder, Unsynced, cut_off, held, marked, parted, restore,
+    torn,
 };
 use mps_hub::RestoredRoom;
 use mps_keeper::{Book, Keeper, RestoreFault, Restored};
@@ -25,6 +27,7 @@ use mps_words::JournalFolder;
 use std::alloc::Global;
 use std::fs::File;
 use std::io::ErrorKind;
+use std::net::{Net, TcpListener, TcpStream};
 use std::rt::Files;
 use std::sync::Arc;
 use std::sync::atomic::AtomicBool;
@@ -45,7 +48,7 @@ pub struct Sessions<'a> {
     pub refused: Vec<ToolFault<'a>>,
 }
 
-/// What is the same for all journals of a folder.
+/// What is the same for all journals of a folder, or of a recorder.
 #[derive(Drop)]
 pub(crate) struct Folder<'o, 'a> {
     pub(crate) alloc: Global,
@@ -176,32 +179,38 @@ impl<'o, 'a> Folder<'o, 'a> {
     }
 
     // Makes the folder, unless it is there, and opens the file that says which sessions have begun. A folder of another
-    // protocol is a fault.
+    // protocol is a fault. A recorder is asked for nothing yet.
     fn enter<R: Files<File = File> + OwnFiles + AllocGlobal>(
         &self,
         rt: &R,
-    ) -> Result<Begun, ToolFault<'a>>
+    ) -> Result<Keeping, ToolFault<'a>>
         ensures { IfErr result (IsFolderFault self.now.journal.folder.now) }
     {
         let folder = self.journal.folder;
+        if let Some(port) = recorder_of(folder)? {
+            return Ok(Keeping::Recorder(port));
+        }
         if let Err(error) = make_folder(rt, folder) {
             return Err(unusable(folder, error));
         }
         self.knows_protocol(rt)?;
         match Begun::open(rt, folder, self.journal.sync) {
-            Ok(begun) => Ok(begun),
+            Ok(begun) => Ok(Keeping::Folder(begun)),
             Err(error) => Err(unusable(folder, error)),
         }
     }
 
-    // Writes the protocol into the folder, where it has none, while no other server does.
+    // Writes the protocol into the folder, where it has none, while no other server does. A recorder has each session's.
     fn write_protocol<R: Files<File = File> + AllocGlobal>(
         &self,
         rt: &R,
-        begun: &Begun,
+        keeping: &Keeping,
     ) -> Result<(), ToolFault<'a>>
         ensures { IfErr result (IsFolderFault self.now.journal.folder.now) }
     {
+        let Keeping::Folder(begun) = keeping else {
+            return Ok(());
+        };
         if let Err(error) = begun.lock(true) {
             return Err(unusable(self.journal.folder, error));
         }
@@ -230,10 +239,10 @@ impl<'o, 'a> Folder<'o, 'a> {
     }
 
     // Has the disk store what the folder has, where it is synced.
-    fn sync<R: Files<File = File>>(&self, rt: &R) -> Result<(), ToolFault<'a>>
+    fn sync<R: Files<File = File>>(&self, rt: &R, keeping: &Keeping) -> Result<(), ToolFault<'a>>
         ensures { IfErr result (IsFolderFault self.now.journal.folder.now) }
     {
-        if !self.journal.sync {
+        if !self.journal.sync || keeping.recorder().is_some() {
             return Ok(());
         }
         let folder = self.journal.folder;
@@ -244,15 +253,34 @@ impl<'o, 'a> Folder<'o, 'a> {
         }
     }
 
-    /// Opens the journal of the session, and locks it. Not inlined, so that a thread's stack needn't keep space for this and
-    /// for what is done with the file at once.
-    #[inline(never)]
-    pub(crate) fn open<R: OwnFiles>(&self, rt: &R, session: u64) -> Result<File, ToolFault<'a>>
-        ensures { IfErr result (IsOneFault session) }
-    {
+    // The journal of the session, by the recorder at that port, or in the folder, where it is locked.
+    fn find<R: OwnFiles + AllocGlobal + Net<Listener = TcpListener, Stream = TcpStream>>(
+        &self,
+        rt: &R,
+        recorder: Option<u16>,
+        session: u64,
+    ) -> io::Result<OwnFile> {
+        if let Some(port) = recorder {
+            let recorder = Recorder::open(rt, port, session, self.protocol)?;
+            return Ok(OwnFile::Recorder(recorder));
+        }
         let folder = self.journal.folder;
         let path = format!(in self.alloc; "{folder}/{session}.journal")?;
-        match own_file(rt, folder, path.as_str()) {
+        Ok(OwnFile::Std(own_file(rt, folder, path.as_str())?))
+    }
+
+    /// Opens the journal of the session, by the recorder at that port, or in the folder, where it is locked. Not inlined, so
+    /// that a thread's stack needn't keep space for this and for what is done with the file at once.
+    #[inline(never)]
+    pub(crate) fn open<R: OwnFiles + AllocGlobal + Net<Listener = TcpListener, Stream = TcpStream>>(
+        &self,
+        rt: &R,
+        recorder: Option<u16>,
+        session: u64,
+    ) -> Result<OwnFile, ToolFault<'a>>
+        ensures { IfErr result (IsOneFault session) }
+    {
+        match self.find(rt, recorder, session) {
             Ok(file) => Ok(file),
             Err(why) => Err(ToolFault::JournalFile {
                 session,
@@ -279,12 +307,12 @@ impl<'o, 'a> Folder<'o, 'a> {
         }
     }
 
-    // The same, with the file. A session without a note has begun, and so its file ever had the mark: without a line it was
-    // lost, and without the mark another was put in its place.
+    // The same, with the file. A session without a note has begun, unless a recorder says that it is new, and so its file ever
+    // had the mark: without a line it was lost, and without the mark another was put in its place.
     fn restore_one(
         &self,
         session: u64,
-        file: File,
+        file: OwnFile,
         note: Option<Note>,
         unsynced: Unsynced,
         room: &mut RestoredRoom,
@@ -293,9 +321,10 @@ impl<'o, 'a> Folder<'o, 'a> {
             → OnOk result (IsRestoredRoom self.now.opening.now.roles (map plain self.now.opening.now.types.items) room.new) }
         ensures fault { IfErr result (IsOneFault session) }
     {
-        let file = Arc::new(self.alloc, OwnFile::Std(file))?;
+        let is_new = note.is_some() || file.is_known_new();
+        let file = Arc::new(self.alloc, file)?;
         let restored = self.restore(session, &file, room)?;
-        if restored.chain.is_sealed || note.is_some() {
+        if restored.chain.is_sealed || is_new {
             return Ok(RestoredFile {
                 file,
                 restored,
@@ -312,23 +341,23 @@ impl<'o, 'a> Folder<'o, 'a> {
     /// What has to be noted before the session's first entry, if something has.
     pub(crate) fn note(
         &self,
-        begun: &mut Begun,
+        keeping: &mut Keeping,
         session: u64,
         unsynced: &Unsynced,
     ) -> Result<Option<Note>, ToolFault<'a>>
         ensures fault { IfErr result (IsOneFault session) }
     {
-        match begun.note(session, unsynced) {
+        match keeping.note(session, unsynced) {
             Ok(note) => Ok(note),
             Err(why) => Err(lost(session, why)),
         }
     }
 
     // The same as `restore_one`, by what is known of the sessions that have begun.
-    fn restore_begun<R: OwnFiles>(
+    fn restore_begun<R: OwnFiles + AllocGlobal + Net<Listener = TcpListener, Stream = TcpStream>>(
         &self,
         rt: &R,
-        begun: &mut Begun,
+        keeping: &mut Keeping,
         session: u64,
     ) -> Result<(RestoredRoom, RestoredFile), ToolFault<'a>>
         ensures room { IfOk result
@@ -336,8 +365,8 @@ impl<'o, 'a> Folder<'o, 'a> {
         ensures fault { IfErr result (IsOneFault session) }
     {
         let unsynced = Arc::new(self.alloc, AtomicBool::new(false))?;
-        let note = self.note(begun, session, &unsynced)?;
-        let file = self.open(rt, session)?;
+        let note = self.note(keeping, session, &unsynced)?;
+        let file = self.open(rt, keeping.recorder(), session)?;
         let mut room = room_of(self.alloc, self.opening)?;
         let read = self.restore_one(session, file, note, unsynced, &mut room)?;
         Ok((room, read))
@@ -362,10 +391,10 @@ impl<'o, 'a> Folder<'o, 'a> {
     }
 
     // Restores each session from its file.
-    fn restore_all<R: OwnFiles>(
+    fn restore_all<R: OwnFiles + AllocGlobal + Net<Listener = TcpListener, Stream = TcpStream>>(
         &self,
         rt: &R,
-        begun: &mut Begun,
+        keeping: &mut Keeping,
         refusals: &mut Refusals<'a>,
     ) -> Result<(Vec<RestoredRoom>, Vec<Option<RestoredFile>>), ToolFault<'a>>
         requires fits { refusals.old.first + refusals.old.sessions < 2 ^ 64 }
@@ -383,7 +412,7 @@ impl<'o, 'a> Folder<'o, 'a> {
         let mut read = Vec::new(self.alloc);
         for place in 0..refusals.sessions {
             let session = refusals.first + place;
-            let done = self.restore_begun(rt, begun, session);
+            let done = self.restore_begun(rt, keeping, session);
             let (room, file) = self.room_and_file(refusals.or_none(session, done)?)?;
             rooms.push(room)?;
             read.push(file)?;
@@ -439,7 +468,7 @@ impl<'o, 'a> Folder<'o, 'a> {
         }
         let about = About {
             session,
-            sync: self.journal.sync,
+            sync: self.journal.sync || file.is_recorder(),
             verbose: self.verbose,
         };
         let chain = marked(self.alloc, &file, &restored)?;
@@ -494,13 +523,13 @@ impl<'o, 'a> Folder<'o, 'a> {
     pub(crate) fn claim<R: Files<File = File> + OwnFiles + AllocGlobal>(
         &self,
         rt: &R,
-    ) -> Result<Begun, ToolFault<'a>>
+    ) -> Result<Keeping, ToolFault<'a>>
         ensures fault { IfErr result (IsFolderFault self.now.journal.folder.now) }
     {
-        let begun = self.enter(rt)?;
-        self.write_protocol(rt, &begun)?;
-        self.sync(rt)?;
-        Ok(begun)
+        let keeping = self.enter(rt)?;
+        self.write_protocol(rt, &keeping)?;
+        self.sync(rt, &keeping)?;
+        Ok(keeping)
     }
 
     // Brings a new room to where this file of the session leaves it, and gives what records it, in a list.
@@ -508,7 +537,7 @@ impl<'o, 'a> Folder<'o, 'a> {
         &self,
         rt: &R,
         session: u64,
-        file: File,
+        file: OwnFile,
         note: Option<Note>,
         unsynced: Unsynced,
         room: &mut RestoredRoom,
@@ -532,7 +561,7 @@ impl<'o, 'a> Folder<'o, 'a> {
         &self,
         rt: &R,
         session: u64,
-        file: File,
+        file: OwnFile,
         note: Option<Note>,
         unsynced: Unsynced,
     ) -> Result<(Vec<RestoredRoom>, Vec<Option<FileKeeper>>), ToolFault<'a>>
@@ -594,7 +623,16 @@ impl<'o, 'a> Folder<'o, 'a> {
 ///
 /// The journals are locked as long as the keepers live. Where the folder is of another protocol, or it is strict and a line
 /// of a journal isn't accepted, no file is changed; journals that weren't there may have been made, with nothing in them.
-pub fn record_sessions<'a, R: Files<File = File> + OwnFiles + AllocGlobal + Eprint>(
+///
+/// Where the word for the folder is `tcp:PORT`, the recorder at that port of this machine has the journals instead.
+pub fn record_sessions<
+    'a,
+    R: Files<File = File>
+        + OwnFiles
+        + AllocGlobal
+        + Eprint
+        + Net<Listener = TcpListener, Stream = TcpStream>,
+>(
     rt: &R,
     opening: &Opening,
     first: u64,
@@ -625,13 +663,13 @@ pub fn record_sessions<'a, R: Files<File = File> + OwnFiles + AllocGlobal + Epri
         sessions,
         faults: Vec::new(alloc),
     };
-    let mut begun = of.enter(rt)?;
-    let (rooms, read) = of.restore_all(rt, &mut begun, &mut refusals)?;
+    let mut keeping = of.enter(rt)?;
+    let (rooms, read) = of.restore_all(rt, &mut keeping, &mut refusals)?;
     if (refusals.faults.len() as u64) < sessions {
-        of.write_protocol(rt, &begun)?;
+        of.write_protocol(rt, &keeping)?;
     }
     let keepers = of.keep_all(rt, read, &mut refusals)?;
-    of.sync(rt)?;
+    of.sync(rt, &keeping)?;
     Ok(Sessions {
         rooms,
         keepers,

@@ -329,7 +329,14 @@ pub struct Service<'a> {
 
 // The rooms of so many sessions, of which the first has that number, and what records them, if something does.
 #[tactic(auto, using(crate::proofs::Naming::restored_named))]
-fn sessions_of<'a, R: Files<File = File> + OwnFiles + AllocGlobal + Eprint>(
+fn sessions_of<
+    'a,
+    R: Files<File = File>
+        + OwnFiles
+        + AllocGlobal
+        + Eprint
+        + Net<Listener = TcpListener, Stream = TcpStream>,
+>(
     rt: &R,
     opening: &Opening,
     first: u64,

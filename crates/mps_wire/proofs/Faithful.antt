@@ -9,6 +9,7 @@ use Rattle.mps_line.specs.declared.write_replies.Reply.TheVariants.{Answer as An
 use Rattle.mps_line.proofs.ShownLines.{no_line_feed}
 use Rattle.mps_local.specs.Local.{LocalType}
 use Rattle.mps_room.specs.declared.caller.Caller.{Ghosts}
+use Rattle.mps_room.specs.contracts.solo.SoloCaller.TheImpl.{ghosts}
 use Rattle.mps_room.specs.declared.entry.Entry.{Entry}
 use Rattle.mps_room.proofs.Faithful.{answer_other}
 use Rattle.mps_fidelity.specs.Fidelity.{AreOfOneProtocol}
@@ -44,7 +45,7 @@ each_line P (x ∷ texts) (y ∷ lines) more n m e a =
     let k = one_line x y (flat_map ended texts) (flat_map ended lines ++ more) n.0 m.0 (sym (append_assoc x (10 ∷ []) (flat_map ended texts)) ∙ e ∙ line_and y (flat_map ended lines) more) in
     (subst P k.0 a.0, each_line P texts lines more n.1 m.1 k.1 a.1)
 
-abbrev mismatched : Reply
+abbrev pub mismatched : Reply
 mismatched = Answered mismatch
 
 -- the refusal's line
@@ -72,6 +73,21 @@ module _ {S : Type 0} (answers : Answering S) (Holds : S → Type 0) (each : (li
   pub written_fits : (asked lines : List (List ℕ)) (st after : S) (out written unwritten rest : List ℕ) → Holds st → AnswersLines answers asked st out after → out ≡ written ++ unwritten → IsSplit written lines rest → AllByRecursion Fits lines
   written_fits asked lines st after out written unwritten rest h a e split = grind (arith, texts_of, each_line, append_assoc)
 
+-- a room's caller is refused none
+pub solo_meets : MeetsNoMismatch ghosts (λ s. s.room.types)
+solo_meets = record {
+  same_types = λ s command answer t call. call.types;
+  other = λ s command answer t own call. answer_other s.room.names s.room.types own s.room.journal s.role command answer call.answer;
+}
+
+module _ {C : Type 0} (caller : Ghosts C) (types : C → List LocalType) (none : MeetsNoMismatch caller types) where
+  pub reply_free : (waits : Bool) (line : List ℕ) (c : C) (r : Reply) (d : C) → HasNoMismatch caller types c → conversations.RepliesTo caller waits line c r d → (r ≢ mismatched) × HasNoMismatch caller types d
+  reply_free waits line c r d free others = grind (arith, same_Some)
+
+  looks_free : (line : List ℕ) (n : ℕ) (c d : C) → HasNoMismatch caller types c → conversations.LooksInVain caller line n c d → HasNoMismatch caller types d
+  looks_free line zero c d free l = subst (HasNoMismatch caller types) (sym l) free
+  looks_free line (suc n) c d free l = (reply_free true line l.0 l.1 d (looks_free line n c l.0 free l.2) l.3).1
+
 -- ---- scripts
 
 module _ (one_reply : (a : List ℕ) (r s : Reply) → SpellsReply a r → SpellsReply a s → r ≡ s) where
@@ -98,18 +114,11 @@ module _ (one_reply : (a : List ℕ) (r s : Reply) → SpellsReply a r → Spell
   -- ---- conversations
 
   module _ {C : Type 0} (caller : Ghosts C) (types : C → List LocalType) (none : MeetsNoMismatch caller types) where
-    reply_free : (waits : Bool) (line : List ℕ) (c : C) (r : Reply) (d : C) → HasNoMismatch caller types c → conversations.RepliesTo caller waits line c r d → (r ≢ mismatched) × HasNoMismatch caller types d
-    reply_free waits line c r d free others = grind (arith, same_Some)
-
-    looks_free : (line : List ℕ) (n : ℕ) (c d : C) → HasNoMismatch caller types c → conversations.LooksInVain caller line n c d → HasNoMismatch caller types d
-    looks_free line zero c d free l = subst (HasNoMismatch caller types) (sym l) free
-    looks_free line (suc n) c d free l = (reply_free true line l.0 l.1 d (looks_free line n c l.0 free l.2) l.3).1
-
     -- Lines that may wait, or may not.
     module _ (waits : Bool) where
       in_time_free : (line : List ℕ) (c : C) (r : Reply) (d : C) → HasNoMismatch caller types c → conversations.RepliesInTime caller waits line c r d → (r ≢ mismatched) × HasNoMismatch caller types d
-      in_time_free line c r d free (conversations.AtOnce none at_once) = reply_free waits line c r d free at_once
-      in_time_free line c r d free (conversations.Later w) = reply_free true w.rest w.mid r d (looks_free w.rest w.looks c w.mid free w.in_vain) w.replies
+      in_time_free line c r d free (conversations.AtOnce none at_once) = reply_free caller types none waits line c r d free at_once
+      in_time_free line c r d free (conversations.Later w) = reply_free caller types none true w.rest w.mid r d (looks_free caller types none w.rest w.looks c w.mid free w.in_vain) w.replies
 
       conversed_line : (line : List ℕ) (c : C) (text : List ℕ) (d : C) → HasNoMismatch caller types c → conversations.RepliesInText caller waits line c text d → IsFit text × HasNoMismatch caller types d
       conversed_line line c text d free a =
