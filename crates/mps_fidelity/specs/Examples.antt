@@ -4,18 +4,18 @@ use Rattle.std.specs.Prelude.{◌≡◌, true, List, [], ◌∷◌, None, codes}
 use Rattle.mps_base.specs.declared.value.Value.TheVariants.{Bool as Truth}
 use Rattle.mps_base.specs.declared.value.Sort.TheVariants.{Int as IntSort, Bool as BoolSort}
 use Rattle.mps_command.specs.declared.answer.Answer.TheVariants.{Undone}
-use Rattle.mps_command.specs.declared.answer.Violation.TheVariants.{WrongPeer, NothingQueued}
+use Rattle.mps_command.specs.declared.answer.Violation.TheVariants.{WrongAct, WrongPeer, NothingQueued, Mismatch}
 use Rattle.mps_command.specs.declared.command.Forward.TheVariants as steps
 use Rattle.mps_command.specs.declared.command.Change.TheVariants.{Forward}
 use Rattle.mps_global.specs.Global as global
 use Rattle.mps_global.specs.Global.{GlobalType}
 use Rattle.mps_global.specs.Faults.{fault_of}
 use Rattle.mps_local.specs.Examples as protocols
-use Rattle.mps_local.specs.Examples.{three, chosen, int_to, bool_to, in_loops, outer, relay, loops, turns}
+use Rattle.mps_local.specs.Examples.{three, chosen, told, int_to, bool_to, in_loops, outer, relay, loops, turns}
 use Rattle.mps_local.specs.Local.{LocalType, Branches, End, Var, Rec, Send, Recv, Select, Branch, NoMore, More}
 use Rattle.mps_local.specs.Outcome.{AreProjections}
 use Rattle.mps_local.specs.declared.merging.Merging.{Merging}
-use Rattle.mps_machine.specs.Examples.{a, b, c, verdict, unfitting, sends_int, receives_into, chooses, picks}
+use Rattle.mps_machine.specs.Examples.{a, b, c, verdict, unfitting, sends_int, sends_true, receives_into, chooses, picks}
 use Rattle.mps_machine.specs.Examples.{rolls_back, done, done_with, done_label, violates, relayed_then, relay_done_then}
 use Rattle.mps_machine.specs.Machine.{Request, initial, view_of, answers, after}
 use Rattle.mps_machine.specs.View.{View}
@@ -74,6 +74,36 @@ round_types =
     ∷ Rec (codes "X") (Branch a (More (codes "more") (Send a IntSort (Var (codes "X"))) (More (codes "stop") End NoMore)))
     ∷ []
 
+-- two branches that c begins alike, before it hears from a, after a value, which one it is; in the second it then tells b
+abbrev pub heard_late : GlobalType
+heard_late =
+    chosen
+    (int_to protocols.c protocols.a (int_to protocols.a protocols.c (told protocols.a protocols.c (codes "x") global.End)))
+    (int_to protocols.c protocols.a (int_to protocols.a protocols.c
+    (told protocols.a protocols.c (codes "y") (bool_to protocols.c protocols.b global.End))))
+
+abbrev pub heard_late_types : List LocalType
+heard_late_types =
+    Select b (left_or_right
+    (Recv c IntSort (Send c IntSort (Select c (More (codes "x") End NoMore))))
+    (Recv c IntSort (Send c IntSort (Select c (More (codes "y") End NoMore)))))
+    ∷ Branch a (left_or_right End (Recv c BoolSort End))
+    ∷ Send a IntSort (Recv a IntSort (Branch a (More (codes "x") End (More (codes "y") (Send b BoolSort End) NoMore))))
+    ∷ []
+
+-- b and c agree on a sort only by what a tells each of them
+abbrev pub told_apart : GlobalType
+told_apart =
+    chosen (told protocols.a protocols.c (codes "l") (int_to protocols.b protocols.c global.End))
+    (told protocols.a protocols.c (codes "r") (bool_to protocols.b protocols.c global.End))
+
+abbrev pub told_apart_types : List LocalType
+told_apart_types =
+    Select b (left_or_right (Select c (More (codes "l") End NoMore)) (Select c (More (codes "r") End NoMore)))
+    ∷ Branch a (left_or_right (Send c IntSort End) (Send c BoolSort End))
+    ∷ Branch a (left_or_right (Recv b IntSort End) (Recv b BoolSort End))
+    ∷ []
+
 -- c's answer and what followed from b's receipt are taken back, and another answer is given
 abbrev pub AnotherAnswerIsGiven : Type 0
 AnotherAnswerIsGiven =
@@ -113,6 +143,18 @@ ThreeLeaveTogether =
     ∷ done_label 8 (codes "stop") ∷ Undone (8 ∷ 7 ∷ []) ∷ done 9 ∷ done_label 10 (codes "l") ∷ done_label 11 (codes "r")
     ∷ done_label 12 (codes "stop") ∷ []
 
+-- a takes back its choice of a branch, with the label that c had not picked and the value that c had received, and takes the
+-- other branch: c's own value is there still, and what it receives now is of that branch
+abbrev pub AnotherBranchIsTaken : Type 0
+AnotherBranchIsTaken =
+    answers heard_late_types initial
+    (sends_int c a 5 ∷ chooses a b (codes "l") ∷ receives_into a c (codes "u") ∷ sends_int a c 6 ∷ chooses a c (codes "x")
+    ∷ receives_into c a (codes "v") ∷ rolls_back a 2 ∷ picks c a ∷ chooses a b (codes "r") ∷ receives_into a c (codes "u")
+    ∷ sends_int a c 7 ∷ chooses a c (codes "y") ∷ receives_into c a (codes "v") ∷ picks c a ∷ sends_true c b ∷ picks b a ∷ [])
+    ≡ done 1 ∷ done 2 ∷ done_with 3 5 ∷ done 4 ∷ done 5 ∷ done_with 6 6 ∷ Undone (6 ∷ 5 ∷ 4 ∷ 3 ∷ 2 ∷ [])
+    ∷ violates WrongAct ∷ done 7 ∷ done_with 8 5 ∷ done 9 ∷ done 10 ∷ done_with 11 7 ∷ done_label 12 (codes "y") ∷ done 13
+    ∷ done_label 14 (codes "r") ∷ []
+
 -- where the types aren't of one protocol, a message need not be the expected one: b expects a bool
 abbrev pub TypesHaveToFit : Type 0
 TypesHaveToFit = ¬ (IsFaithful (view_reached unfitting (sends_int a b 5 ∷ [])))
@@ -137,6 +179,19 @@ abbrev pub BranchesHaveToAgree : Type 0
 BranchesHaveToAgree =
     ¬ (IsFaithful
     (view_reached first_branch_types (chooses a b (codes "r") ∷ (a, Forward (steps.Send c (Truth true))) ∷ [])))
+
+-- nor is a label where a third role knows the labels of the first branch alone
+abbrev pub first_label_types : List LocalType
+first_label_types =
+    Select b (left_or_right (Select c (More (codes "l") End NoMore)) (Select c (More (codes "r") End NoMore)))
+    ∷ Branch a (left_or_right (Send c IntSort End) (Send c BoolSort End))
+    ∷ Branch a (More (codes "l") (Recv b IntSort End) NoMore)
+    ∷ []
+
+abbrev pub LabelsHaveToUnite : Type 0
+LabelsHaveToUnite =
+    answers first_label_types initial (chooses a b (codes "r") ∷ chooses a c (codes "r") ∷ picks c a ∷ [])
+    ≡ done 1 ∷ done 2 ∷ violates Mismatch ∷ []
 
 -- two roles that each send before they receive: messages wait in both directions
 abbrev pub both_send_first : List LocalType

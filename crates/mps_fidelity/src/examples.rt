@@ -6,9 +6,10 @@ ghost use Rattle.mps_local.specs.Projection.{projection};
 ghost use Rattle.mps_local.specs.declared.merging.Merging.TheVariants.{Plain, Full};
 ghost use Rattle.mps_machine.specs.Examples.{a, b, c, verdict};
 ghost use Rattle.mps_fidelity.specs.Examples.{DoInIt, loop_types, merging, merging_types, aside, aside_types, unmerged};
+ghost use Rattle.mps_fidelity.specs.Examples.{heard_late, heard_late_types, told_apart, told_apart_types};
 ghost use Rattle.mps_fidelity.specs.Examples.{first_branch_types, round_types};
 ghost use Rattle.mps_fidelity.specs.Examples.{AnotherAnswerIsGiven, RoundsGoOn, EitherBranchIsTaken, TypesHaveToFit};
-ghost use Rattle.mps_fidelity.specs.Examples.{ThreeLeaveTogether, SortsHaveToAgree, BranchesHaveToAgree};
+ghost use Rattle.mps_fidelity.specs.Examples.{ThreeLeaveTogether, AnotherBranchIsTaken, SortsHaveToAgree, BranchesHaveToAgree, LabelsHaveToUnite};
 ghost use Rattle.mps_fidelity.specs.Examples.{OneHasToReceiveFirst};
 
 /// What three roles do in protocols without faults, and what they are answered there, as worked out by hand: tests of
@@ -19,10 +20,13 @@ pub fn worked_protocols()
     ensures choice_in_a_loop { DoInIt Plain merging merging_types }
     ensures idle_loop { DoInIt Plain aside aside_types }
     ensures loop_of_three { DoInIt Full rounds round_types }
+    ensures heard_late { DoInIt Full heard_late heard_late_types }
+    ensures told_apart { DoInIt Full told_apart told_apart_types }
     ensures another_answer_is_given { AnotherAnswerIsGiven }
     ensures rounds_go_on { RoundsGoOn }
     ensures either_branch_is_taken { EitherBranchIsTaken }
     ensures three_leave_together { ThreeLeaveTogether }
+    ensures another_branch_is_taken { AnotherBranchIsTaken }
 {}
 
 /// Counterexamples: where types aren't the projections of one protocol, a message that isn't expected may wait, or
@@ -32,6 +36,8 @@ pub fn premises_are_needed()
     ensures types_have_to_fit { TypesHaveToFit }
     ensures sorts_have_to_agree { SortsHaveToAgree }
     ensures no_type_without_comparing { projection Plain three c unmerged ≡ None }
+    ensures no_type_with_labels { projection Full three c unmerged ≡ None }
     ensures branches_have_to_agree { BranchesHaveToAgree }
+    ensures labels_have_to_unite { LabelsHaveToUnite }
     ensures one_has_to_receive_first { OneHasToReceiveFirst }
 {}

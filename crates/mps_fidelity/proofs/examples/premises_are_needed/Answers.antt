@@ -1,4 +1,4 @@
--- Proves the law `premises_are_needed`, clauses `types_have_to_fit`, `sorts_have_to_agree`, `no_type_without_comparing`, `branches_have_to_agree` and `one_has_to_receive_first`.
+-- Proves the law `premises_are_needed`, clauses `types_have_to_fit`, `sorts_have_to_agree`, `no_type_without_comparing`, `no_type_with_labels`, `labels_have_to_unite` and 2 more.
 use Rattle.std.proofs.Common.{◌≡◌, inl, inr, true, false, refl}
 use Rattle.std.specs.Prelude.{pos}
 use Rattle.mps_base.specs.declared.action.Message.TheVariants.{Value as Plain}
@@ -26,6 +26,13 @@ returns-clause-sorts_have_to_agree c dual = by_step (dual 1)
 
 pub returns-clause-no_type_without_comparing : goal.returns-clause-no_type_without_comparing
 returns-clause-no_type_without_comparing c = refl
+
+pub returns-clause-no_type_with_labels : goal.returns-clause-no_type_with_labels
+returns-clause-no_type_with_labels c = refl
+
+pub returns-clause-labels_have_to_unite : goal.returns-clause-labels_have_to_unite
+unfolding unfolded
+returns-clause-labels_have_to_unite c = refl
 
 pub returns-clause-branches_have_to_agree : goal.returns-clause-branches_have_to_agree
 unfolding unfolded

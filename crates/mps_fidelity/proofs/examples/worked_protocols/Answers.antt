@@ -1,4 +1,4 @@
--- Proves the law `worked_protocols`, clauses `relay`, `loop_in_a_loop`, `choice_in_a_loop`, `idle_loop`, `another_answer_is_given`, `rounds_go_on` and 3 more.
+-- Proves the law `worked_protocols`, clauses `relay`, `loop_in_a_loop`, `choice_in_a_loop`, `idle_loop`, `another_answer_is_given`, `rounds_go_on` and 6 more.
 use Rattle.std.proofs.Common.{◌≡◌, ℕ, zero, suc, ◌<◌, List, length, refl, arith}
 use Rattle.std.specs.Prelude.{slice_get}
 use Rattle.mps_global.specs.Global.{GlobalType}
@@ -10,7 +10,7 @@ use Rattle.mps_local.specs.Unfolding.{unfolded}
 use Rattle.mps_local.specs.declared.merging.Merging.{Merging}
 use Rattle.mps_local.specs.declared.merging.Merging.TheVariants.{Plain, Full}
 use Rattle.mps_machine.specs.Examples.{verdict}
-use Rattle.mps_fidelity.specs.Examples.{loop_types, merging, merging_types, aside, aside_types, round_types}
+use Rattle.mps_fidelity.specs.Examples.{loop_types, merging, merging_types, aside, aside_types, round_types, heard_late, heard_late_types, told_apart, told_apart_types}
 use Rattle.mps_fidelity.proofs.examples.worked_protocols.Goals as goal
 
 -- the types of three roles, one after the other
@@ -37,6 +37,16 @@ returns-clause-idle_loop c = (refl, each_of Plain aside aside_types refl refl re
 
 pub returns-clause-loop_of_three : goal.returns-clause-loop_of_three
 returns-clause-loop_of_three c = (refl, each_of Full rounds round_types refl refl refl refl)
+
+pub returns-clause-heard_late : goal.returns-clause-heard_late
+returns-clause-heard_late c = (refl, each_of Full heard_late heard_late_types refl refl refl refl)
+
+pub returns-clause-told_apart : goal.returns-clause-told_apart
+returns-clause-told_apart c = (refl, each_of Full told_apart told_apart_types refl refl refl refl)
+
+pub returns-clause-another_branch_is_taken : goal.returns-clause-another_branch_is_taken
+unfolding unfolded
+returns-clause-another_branch_is_taken c = refl
 
 pub returns-clause-another_answer_is_given : goal.returns-clause-another_answer_is_given
 unfolding unfolded
