@@ -1,5 +1,5 @@
 //! The file of a session's journal: who writes it, and who has the disk store it.
-ghost use Rattle.std.specs.Prelude.{◌≡◌, ◌≤◌, IfOk, length};
+ghost use Rattle.std.specs.Prelude.{◌≡◌, ◌≤◌, ⊤, IfOk, length};
 
 use crate::own_file::OwnFile;
 use mps_dev::OverWrite;
@@ -260,6 +260,10 @@ impl JournalDisk {
 }
 
 impl Disk for JournalDisk {
+    ghost stored = { λ _ _. ⊤ };
+
+    ghost confirmed = { λ _ _. ⊤ };
+
     fn sync(&self) -> bool {
         if !self.about.sync {
             return true;

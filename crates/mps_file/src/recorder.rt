@@ -1,6 +1,6 @@
 //! A recorder: another process on this machine, which keeps a session's journal as a file would.
 ghost use Rattle.std.specs.Prelude.{◌≡◌, ◌≤◌, ℕ, true, false, IfOk, IfSome, IfNone, length};
-ghost use Rattle.mps_file.specs.Recorders.{GivesJournal, IsNumberAfter, SaysKept};
+ghost use Rattle.mps_file.specs.Recorders.{AsksFor, GivesJournal, IsNumberAfter, SaysKept};
 
 use mps_base::{read_number, write_number};
 use std::alloc::{AllocError, Global};
@@ -50,7 +50,9 @@ fn says_kept(line: &[u8], bytes: u64) -> bool
 }
 
 // The line that asks for the session of that protocol, with its LF.
-fn asking(alloc: Global, session: u64, protocol: &[u8]) -> Result<Vec<u8>, AllocError> {
+fn asking(alloc: Global, session: u64, protocol: &[u8]) -> Result<Vec<u8>, AllocError>
+    ensures { IfOk result (λ line. AsksFor session protocol.now line.items) }
+{
     let mut line = Vec::new(alloc);
     line.extend_from_slice(b"open ")?;
     write_number(session, &mut line)?;

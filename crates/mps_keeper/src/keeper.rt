@@ -1,5 +1,5 @@
 //! The file of a journal that the connections of a session share.
-ghost use Rattle.std.specs.Prelude.{◌≡◌, ◌+◌, ◌++◌, [], true, false, OnOk, OnErr};
+ghost use Rattle.std.specs.Prelude.{◌≡◌, ◌+◌, ◌++◌, [], Bool, true, false, ⊤, IfSome, OnOk, OnErr};
 ghost use Rattle.mps_lines.specs.Cuts.{cut};
 ghost use Rattle.mps_lines.specs.Lines.{ended};
 ghost use Rattle.mps_keeper.specs.Books.{TookSealed};
@@ -23,11 +23,19 @@ pub const LONGEST_LINE: usize = 32 + 1 + 20 + 1 + MAX_LINE + SEAL_BYTES + 1;
 
 /// What stores the lines that were written.
 pub trait Disk {
+    // What it may say when it is told to store what was written.
+    ghost stored: { Self → Bool → Type 0 };
+
+    // What it may say when it is asked whether that is here still.
+    ghost confirmed: { Self → Bool → Type 0 };
+
     /// Says whether all that was written is stored.
-    fn sync(&self) -> bool;
+    fn sync(&self) -> bool
+        ensures { stored self.now result };
 
     /// Says whether what was written is stored here still, and no other process has taken it over.
-    fn confirm(&self) -> bool;
+    fn confirm(&self) -> bool
+        ensures { confirmed self.now result };
 
     /// Is called once, when the first line is lost, to tell whoever looks after the server.
     fn lost<R: Eprint>(&self, rt: &R);
@@ -35,6 +43,10 @@ pub trait Disk {
 
 /// A file that stores what was written each time, and tells nobody of what is lost.
 impl Disk for File {
+    ghost stored = { λ _ _. ⊤ };
+
+    ghost confirmed = { λ _ _. ⊤ };
+
     fn sync(&self) -> bool {
         self.sync_data().is_ok()
     }
@@ -250,6 +262,7 @@ impl<W: Sink, D: Disk> Keeper<W, D> {
         ensures taken { result ≡ true → TookSealed (taken_of writing.old.book) (cut writing.old.text.items).lines
             (taken_of writing.new.book) }
         ensures lines { result ≡ true → lines_of writing.new.book ≡ lines }
+        ensures stored { result ≡ true → IfSome self.now.disk (λ disk. D.stored disk true) }
         ensures emptied { writing.new.text.items ≡ [] }
     {
         let written = writing.record(lines).is_ok();
@@ -285,7 +298,9 @@ impl<W: Sink, D: Disk> Keeper<W, D> {
 
     // Asks the disk whether the lines are here still, while nobody writes. Where they aren't nothing more is recorded. Says
     // whether none is lost.
-    fn confirm<R: Wait + Eprint>(&self, rt: &R) -> bool {
+    fn confirm<R: Wait + Eprint>(&self, rt: &R) -> bool
+        ensures confirmed { result ≡ true → IfSome self.now.disk (λ disk. D.confirmed disk true) }
+    {
         let Some(disk) = &self.disk else {
             return !self.is_broken();
         };
@@ -344,6 +359,8 @@ impl<'k, R: Wait + Eprint, W: Sink, D: Disk> Hold<'k, R, W, D> {
         ensures keeper { keeper_of self.new ≡ keeper_of self.old }
         ensures records { records_of self.new ≡ records_of self.old }
         ensures lost { whole_of self.old ≡ false → whole_of self.new ≡ false }
+        ensures confirmed { whole_of self.new ≡ true
+            → IfSome (keeper_of self.new) (λ keeper. IfSome keeper.disk (λ disk. D.confirmed disk true)) }
         ensures unrecorded { records_of self.old ≡ false → whole_of self.new ≡ whole_of self.old }
     {
         if let Some(keeper) = self.keeper
