@@ -196,7 +196,7 @@ const ENDLESS: Word = Word {
 // Where the sessions are kept.
 const JOURNAL: Word = Word {
     name: "journal",
-    help: "A folder that keeps the sessions; the next server with it goes on where this one stopped",
+    help: "A folder that keeps the sessions, or tcp:PORT, a recorder that does; the next server with it goes on where this one stopped",
     given: Given::Sometimes,
     takes: Takes::Text,
 };
