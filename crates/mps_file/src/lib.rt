@@ -18,5 +18,5 @@ pub use journal_file::{
     About, FileKeeper, JournalDisk, JournalFile, LOOK, Note, Unsynced, held, parted, store_name,
 };
 pub use own_file::OwnFile;
-pub use recorder::Recorder;
+pub use recorder::RecorderStream;
 pub use rest::{cut_off, marked, restore, torn};

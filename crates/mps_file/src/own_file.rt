@@ -2,7 +2,7 @@
 ghost use Rattle.std.specs.Prelude.{◌≤◌, ⊥, IfOk, length};
 
 use crate::descriptor::Descriptor;
-use crate::recorder::Recorder;
+use crate::recorder::RecorderStream;
 use std::fs::File;
 use std::io;
 use std::io::{ErrorKind, Read, Write};
@@ -17,7 +17,7 @@ const INTERRUPTS: u64 = 1_000;
 pub enum OwnFile {
     Std(File),
     Raw(Descriptor),
-    Recorder(Recorder),
+    Recorder(RecorderStream),
 }
 
 // What a recorder isn't asked to do.

@@ -15,7 +15,7 @@ const LONGEST: usize = 64;
 /// A session's journal that a recorder keeps, by a connection for this session alone. It is read once, from its beginning, and
 /// then added to.
 #[derive(Drop)]
-pub struct Recorder {
+pub struct RecorderStream {
     stream: TcpStream,
     // how many bytes the recorder gave, and how many of these aren't read yet
     given: u64,
@@ -78,7 +78,7 @@ fn read_line(stream: &TcpStream, line: &mut [u8; LONGEST]) -> io::Result<usize>
     Err(io::Error::from(ErrorKind::InvalidData))
 }
 
-impl Recorder {
+impl RecorderStream {
     /// The session's journal, from the recorder at that port of 127.0.0.1. It fails by `WouldBlock` where another server has
     /// the session, or may have it, and by `InvalidData` where the recorder refuses it, as one of another protocol.
     pub fn open<R: AllocGlobal + Net<Listener = TcpListener, Stream = TcpStream>>(
@@ -86,7 +86,7 @@ impl Recorder {
         port: u16,
         session: u64,
         protocol: &[u8],
-    ) -> io::Result<Recorder> {
+    ) -> io::Result<RecorderStream> {
         let stream = TcpStream::connect(rt, SocketAddr::from((Ipv4Addr::LOCALHOST, port)))?;
         stream.set_nodelay(true)?;
         let asked = asking(rt.alloc(), session, protocol)?;
@@ -95,7 +95,7 @@ impl Recorder {
         let mut line = [0u8; LONGEST];
         let end = read_line(&stream, &mut line)?;
         let given = given_by(&line[..end])?;
-        Ok(Recorder {
+        Ok(RecorderStream {
             stream,
             given,
             unread: AtomicU64::new(given),

@@ -23,3 +23,6 @@ new_restored names types room new = record {
   none = new.none;
   restored = ap (λ (m : RoomState). record { journal = m.journal; newest = newest_of room.numbers.items }) new.room;
 }
+
+pub new_rooms_restored : (names : List (List ℕ)) (types : List LocalType) (rooms : List RestoredRoom) → All (IsNewRoom names types) rooms → All (IsRestoredRoom names types) rooms
+new_rooms_restored names types rooms all = λ i d less. new_restored names types _ (all i d less)

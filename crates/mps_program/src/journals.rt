@@ -16,8 +16,8 @@ use crate::own_files::OwnFiles;
 use crate::rooms::{room_of, rooms_of};
 use mps_dev::OverWrite;
 use mps_file::{
-    About, FileKeeper, Note, OwnFile, Recorder, Unsynced, cut_off, held, marked, parted, restore,
-    torn,
+    About, FileKeeper, Note, OwnFile, RecorderStream, Unsynced, cut_off, held, marked, parted,
+    restore, torn,
 };
 use mps_hub::RestoredRoom;
 use mps_keeper::{Book, Keeper, RestoreFault, Restored};
@@ -261,7 +261,7 @@ impl<'o, 'a> Folder<'o, 'a> {
         session: u64,
     ) -> io::Result<OwnFile> {
         if let Some(port) = recorder {
-            let recorder = Recorder::open(rt, port, session, self.protocol)?;
+            let recorder = RecorderStream::open(rt, port, session, self.protocol)?;
             return Ok(OwnFile::Recorder(recorder));
         }
         let folder = self.journal.folder;

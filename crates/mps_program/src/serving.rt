@@ -1,6 +1,8 @@
 //! Sessions served to connections.
 ghost use Rattle.std.specs.Prelude.{◌≡◌, ◌+◌, ◌<◌, ◌≤◌, ◌^◌, ℕ, Some, false, length, map, slice_get, All, IfErr, IfOk, OnOk};
 ghost use Rattle.std.specs.Option.{option_map};
+ghost use Rattle.mps_file.specs.Rooms.{IsRestoredRoom};
+ghost use Rattle.mps_local.specs.Local.{plain};
 ghost use Rattle.mps_program.specs.Faults.{after_writes, without};
 ghost use Rattle.mps_program.specs.Journals.{IsSessionsFault, recorded_of};
 ghost use Rattle.mps_program.specs.Served.{AreLinesUpTo, AreSessionLines, HasServed, HasServedUpTo, IfLost};
@@ -328,7 +330,7 @@ pub struct Service<'a> {
 }
 
 // The rooms of so many sessions, of which the first has that number, and what records them, if something does.
-#[tactic(auto, using(crate::proofs::Naming::restored_named))]
+#[tactic(auto, using(crate::proofs::Naming::restored_named, crate::proofs::Naming::new_rooms_restored))]
 fn sessions_of<
     'a,
     R: Files<File = File>
@@ -350,6 +352,8 @@ fn sessions_of<
     ensures keepers { IfOk result (λ r. length r.keepers.items
         ≡ recorded_of (option_map (λ j. j.folder.now) journal.entry) sessions) }
     ensures named { IfOk result (λ r. All (λ room. room.room.names ≡ opening.now.roles) r.rooms.items) }
+    ensures restored { IfOk result (λ r.
+        All (IsRestoredRoom opening.now.roles (map plain opening.now.types.items)) r.rooms.items) }
     ensures fault { IfErr result (IsSessionsFault (option_map (λ j. j.folder.now) journal.entry) first sessions) }
     ensures refused { IfOk result (λ r.
         All (IsSessionsFault (option_map (λ j. j.folder.now) journal.entry) first sessions) r.refused.items) }
