@@ -117,7 +117,7 @@ module _ (one_reply : (a : List ℕ) (r s : Reply) → SpellsReply a r → Spell
     -- Lines that may wait, or may not.
     module _ (waits : Bool) where
       in_time_free : (line : List ℕ) (c : C) (r : Reply) (d : C) → HasNoMismatch caller types c → conversations.RepliesInTime caller waits line c r d → (r ≢ mismatched) × HasNoMismatch caller types d
-      in_time_free line c r d free (conversations.AtOnce none at_once) = reply_free caller types none waits line c r d free at_once
+      in_time_free line c r d free (conversations.AtOnce unlike at_once) = reply_free caller types none waits line c r d free at_once
       in_time_free line c r d free (conversations.Later w) = reply_free caller types none true w.rest w.mid r d (looks_free caller types none w.rest w.looks c w.mid free w.in_vain) w.replies
 
       conversed_line : (line : List ℕ) (c : C) (text : List ℕ) (d : C) → HasNoMismatch caller types c → conversations.RepliesInText caller waits line c text d → IsFit text × HasNoMismatch caller types d

@@ -16,7 +16,7 @@ returns-in-Ok-admit-clause-attended g c =
     joined _ (λ caller. caller.inner.inner.pass) (λ caller. keeper_of caller.recorder) (λ caller. caller.inner.left) g.R.Source g.W.Sink c.args.self.now.desk.now c.args.self.now.keepers.now c.args.reader.now c.first_line.new.reader c.args.writer.now c.as_slice.result.now first
     a.session a.name _ c.converse_joined-ended.new.caller c.converse_joined-ended.new.reader c.converse_joined-ended.new.writer c.converse_joined-ended.result _ (c.new-vigil.ensures ∙ c.waits.ensures) c.converse_joined-ended.ensures.conversed c.in-Ok-admit.ensures.joins
     (subst (λ inner. IsPassOf c.args.self.now.desk.now a.session a.name inner.inner.pass) (sym c.new-guest.ensures.inner) c.in-Ok-admit.ensures.pass)
-    (subst (λ keeper. IsKeptBy c.args.self.now.keepers.now (a.session - c.args.self.now.desk.now.first) keeper) (sym (c.new-guest.ensures.place ∙ c.new-hold.ensures.keeper)) c.in-Ok-admit.ensures.keeper)
+    (subst (λ keeper. IsKeptBy c.args.self.now.keepers.now (a.session - c.args.self.now.desk.now.first) keeper) (sym (c.new-guest.ensures.place ∙ c.confirm.ensures.keeper ∙ c.new-hold.ensures.keeper)) c.in-Ok-admit.ensures.keeper)
     (subst (λ inner. IsLeftOf c.args.self.now.desk.now.share inner.left) (sym c.new-guest.ensures.inner) c.left.ensures)
 
 pub returns-in-Err-admit-clause-attended : goal.returns-in-Err-admit-clause-attended
