@@ -1,5 +1,5 @@
 //! The file of a journal, however it was opened, or what keeps the journal in a file's place.
-ghost use Rattle.std.specs.Prelude.{◌≤◌, ⊥, IfOk, length};
+ghost use Rattle.std.specs.Prelude.{◌≤◌, IfOk, length};
 
 use crate::descriptor::Descriptor;
 use crate::recorder::RecorderStream;

@@ -64,7 +64,7 @@ fn asking(alloc: Global, session: u64, protocol: &[u8]) -> Result<Vec<u8>, Alloc
 
 // Reads the recorder's next line, byte by byte, since its bytes may follow. Returned is how many there are, without the LF.
 fn read_line(stream: &TcpStream, line: &mut [u8; LONGEST]) -> io::Result<usize>
-    ensures { IfOk result (λ n. n ≤ length line.new) }
+    ensures { IfOk result (λ n. n ≤ 64) }
 {
     let mut stream = stream;
     let mut byte = [0u8];
