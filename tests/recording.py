@@ -99,7 +99,8 @@ class Served:
         self.stream.close()
 
     def send(self, data):
-        self.stream.sendall(data)
+        with contextlib.suppress(ConnectionError):
+            self.stream.sendall(data)
 
     def line(self):
         """The next line of the recorder; what came of it, where the connection ends."""
