@@ -28,15 +28,19 @@ class Forwarder(threading.Thread):
         with self.turn:
             for place in (self.place, *(it for it in range(len(self.ports)) if it != self.place)):
                 with contextlib.suppress(OSError):
-                    stream = socket.create_connection(("127.0.0.1", self.ports[place]), SECONDS)
-                    stream.settimeout(None)
                     if self.is_up(place):
+                        stream = socket.create_connection(("127.0.0.1", self.ports[place]), SECONDS)
+                        stream.settimeout(None)
                         if place != self.place:
                             self.leave(place)
                         self.open.add(stream)
                         return stream
-                    stream.close()
         return None
+
+    def switch(self, place):
+        """Turns to that server, for as long as it is up."""
+        with self.turn:
+            self.leave(place)
 
     def leave(self, place):
         """Turns to another server."""

@@ -20,6 +20,7 @@ wal_log_hints = on
 shared_buffers = 32MB
 max_connections = 40
 wal_sender_timeout = 5s
+wal_retrieve_retry_interval = 200ms
 """
 SECONDS = 60  # that a busy machine is given
 USER = "postgres"
@@ -69,7 +70,7 @@ class Postgres:
         shutil.rmtree(self.data, ignore_errors=True)
         primary.ask("select pg_drop_replication_slot(slot_name) from pg_replication_slots where not active")
         self.call("pg_basebackup", "-c", "fast", "-d", f"host={primary.folder} user={USER} application_name={self.name}", "-D", self.data,
-                  "-R", "-X", "stream", "-C", "-S", self.name)
+                  "-R", "-X", "stream", "-C", "-S", self.name, "--no-sync")
         self.configure()
         self.start()
 

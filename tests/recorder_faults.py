@@ -5,6 +5,7 @@ the journal of each session, as the table has it, is accepted by `./mps journal`
 import contextlib
 import pathlib
 import random
+import signal
 import subprocess
 import threading
 import time
@@ -20,7 +21,8 @@ SESSIONS = range(1, 5)
 ROLES = (("a", "b"), ("b", "a"))  # each with its peer
 ANSWERS = 10  # that clients get before the next fault
 STUCK = 60  # seconds in which they have to
-FAULTS = ("server", "recorder", "machine", "primary", "promote", "standby", "cancel")
+QUICK = 0.5  # seconds in which a recorder says whether it is ready
+FAULTS = ("server", "recorder", "machine", "stop", "switch", "disconnect", "primary", "promote", "standby", "cancel")
 
 
 class Process(threading.Thread):
@@ -41,9 +43,12 @@ class Process(threading.Thread):
             time.sleep(0.2)
         self.log.close()
 
-    def kill(self):
+    def signal(self, kind):
         if self.process is not None and self.process.poll() is None:
-            self.process.kill()
+            self.process.send_signal(kind)
+
+    def kill(self):
+        self.signal(signal.SIGKILL)
 
     def end(self):
         self.is_over = True
@@ -102,7 +107,8 @@ class Game:
             Process(room, f"server{place}", [path, "host", self.protocol, "--port", server, "--journal", f"tcp:{recorder}", "--keep", "1",
                                              "--wait", "5"]))
             for place, (recorder, server) in enumerate(ports)]
-        self.port = Forwarder([server for _, server in ports], lambda place: ask(ports[place][0], b"status\n") == b"ready\n").port
+        self.forwarder = Forwarder([server for _, server in ports], lambda place: ask(ports[place][0], b"status\n", QUICK) == b"ready\n")
+        self.port = self.forwarder.port
         self.clients = [Client(self, session, *role) for session in SESSIONS for role in ROLES]
 
     def heard(self):
@@ -135,24 +141,49 @@ class Game:
 
     def fail(self, fault):
         """Has a part fail, which goes on some time later."""
-        {"server": self.server, "recorder": self.recorder, "machine": self.machine, "primary": self.primary, "promote": self.pair.promote,
-         "standby": self.standby, "cancel": self.cancel}[fault]()
+        getattr(self, fault)()
+
+    def place(self):
+        """A machine, mostly the one to which clients are handed."""
+        return self.forwarder.place if self.dice.random() < 0.7 else 1 - self.forwarder.place
 
     def server(self):
-        self.dice.choice(self.machines)[1].kill()
+        self.machines[self.place()][1].kill()
 
     def recorder(self):
-        self.dice.choice(self.machines)[0].kill()
+        self.machines[self.place()][0].kill()
 
     def machine(self):
         """A machine is away for some time."""
-        machine = self.dice.choice(self.machines)
+        machine = self.machines[self.place()]
         for process in machine:
             process.is_held = True
             process.kill()
         time.sleep(self.dice.uniform(0.2, 2))
         for process in machine:
             process.is_held = False
+
+    def stop(self):
+        """A machine stands still for some time, so that PostgreSQL gives up its connection; then it goes on."""
+        machine = self.machines[self.place()]
+        for process in machine:
+            process.signal(signal.SIGSTOP)
+        self.disconnect()
+        time.sleep(self.dice.uniform(0.2, 5))
+        for process in machine:
+            process.signal(signal.SIGCONT)
+
+    def switch(self):
+        """The clients are handed to the other machine."""
+        self.forwarder.switch(1 - self.forwarder.place)
+
+    def disconnect(self):
+        """The connections to the primary end."""
+        self.pair.primary.ask("select pg_terminate_backend(pid) from pg_stat_activity where backend_type = 'client backend'"
+                              " and pid <> pg_backend_pid()")
+
+    def promote(self):
+        self.pair.promote()
 
     def primary(self):
         self.pair.primary.kill()
