@@ -236,7 +236,8 @@ class Game:
         """What the program answers to the session's lines."""
         script = self.room / f"{session}.script"
         script.write_text("".join(f"{role} {command}\n" for _, role, _, command, _ in lines), encoding="ascii")
-        return subprocess.run([program.MPS, "run", self.protocol, script], stdout=subprocess.PIPE, text=True, check=True).stdout.splitlines()
+        words = [program.MPS, "run", self.protocol, script]
+        return subprocess.run(words, stdout=subprocess.PIPE, text=True, check=True).stdout.splitlines()
 
     def judge(self, session, lines):
         """Whether `./mps journal` accepts the session's journal as the tables have it."""
