@@ -1,8 +1,8 @@
 """recorder --port P --database DSN [--database DSN ..] [--patience SECONDS] [--lone]
 
 Keeps the journals of a server's sessions in PostgreSQL, so that they outlive the machine. It runs beside the server, on the same
-machine: `mps host FILE --port 4750 --journal tcp:4760` connects to port 4760 of 127.0.0.1, once for each open session.
-docs/OPERATING.md says what PostgreSQL needs, and docs/FORMATS.md what server and recorder say to each other.
+machine: one whose journals are in `tcp:4760` connects to port 4760 of 127.0.0.1, once for each open session. docs/OPERATING.md says
+what PostgreSQL needs, and docs/FORMATS.md what server and recorder say to each other.
 
 --port P             where it listens, of 127.0.0.1; 0 is any free port
 --database DSN       where PostgreSQL is, as psql reads it; once for each that may be the primary
