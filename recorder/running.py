@@ -12,6 +12,10 @@ from servers import WAITING, Answers, Servers
 from tables import Tables
 
 
+SPARE = 30  # descriptors that are for other files than the connections of servers
+MOST = 1 << 20  # descriptors where there is no limit
+
+
 class Wrong(Exception):
     """Words that it can't go by."""
 
@@ -31,16 +35,17 @@ def listen(port):
 
 
 def run(port, names, patience, is_lone):
-    """Keeps what servers at that port ask, until the process is ended. Each of them takes a descriptor."""
+    """Keeps what servers at that port ask, until the process is ended."""
     for name in names:
         try:
             psycopg2.extensions.parse_dsn(name)
         except psycopg2.ProgrammingError as fault:
             raise Wrong(f"--database: {str(fault).strip()}") from None
-    _, most = resource.getrlimit(resource.RLIMIT_NOFILE)
-    resource.setrlimit(resource.RLIMIT_NOFILE, (most, most))
+    _, limit = resource.getrlimit(resource.RLIMIT_NOFILE)
+    resource.setrlimit(resource.RLIMIT_NOFILE, (limit, limit))
+    most = MOST if limit == resource.RLIM_INFINITY else limit
     listener, desk, answers = listen(port), Desk(), Answers()
     database = Database(names, patience, is_lone, Tables.begin, answers.turn_away)
     Keeper(desk, database, answers.put).start()
     print(f"listening {listener.getsockname()[1]}", flush=True)
-    Servers(listener, desk, answers, lambda: database.is_there).run()
+    Servers(listener, desk, answers, lambda: database.is_there, max(1, most - SPARE)).run()

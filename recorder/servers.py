@@ -64,11 +64,11 @@ class Answers:
 
 
 class Servers:
-    """The servers that are connected. `is_there` says whether PostgreSQL answers."""
+    """The servers that are connected, so many at most. `is_there` says whether PostgreSQL answers."""
 
-    def __init__(self, listener, desk, answers, is_there):
-        self.listener, self.desk, self.answers, self.is_there = listener, desk, answers, is_there
-        self.opening = set()
+    def __init__(self, listener, desk, answers, is_there, most):
+        self.listener, self.desk, self.answers, self.is_there, self.most = listener, desk, answers, is_there, most
+        self.count, self.opening = 0, set()
         self.selector = selectors.DefaultSelector()
         self.selector.register(listener, READ)
         self.selector.register(answers.bell, READ)
@@ -85,17 +85,22 @@ class Servers:
                     self.serve(key.data, events)
 
     def accept(self):
-        """Takes a connection. Where the process has as many as it may, others wait until one ends."""
+        """Takes a connection. Where there are as many as there may be, others wait until one ends."""
         try:
             stream, _ = self.listener.accept()
         except OSError as fault:
-            tell(f"no connection is taken: {fault.strerror}")
-            self.selector.unregister(self.listener)
-            self.is_listening = False
-            return
+            return self.hold(fault.strerror)
         stream.setblocking(False)
         stream.setsockopt(socket.IPPROTO_TCP, socket.TCP_NODELAY, 1)
         self.selector.register(stream, READ, Server(stream))
+        self.count += 1
+        return self.hold(f"{self.count} are there (ulimit -n)") if self.count >= self.most else None
+
+    def hold(self, why):
+        """Takes no connections until one ends."""
+        tell(f"no more connections are taken: {why}")
+        self.selector.unregister(self.listener)
+        self.is_listening = False
 
     def serve(self, server, events):
         if events & WRITE and not server.is_closed:
@@ -189,6 +194,7 @@ class Servers:
         self.opening.discard(server)
         self.selector.unregister(server.stream)
         server.stream.close()
+        self.count -= 1
         if server.session is not None:
             self.desk.put(self.desk.gone, server)
         if not self.is_listening:

@@ -28,9 +28,9 @@ def until(what, holds, seconds=SECONDS):
 class Recorder:
     """A recorder of these databases, which tells what it has to say in a file."""
 
-    def __init__(self, room, databases, *options, port=0):
+    def __init__(self, room, databases, *options, port=0, wrap=()):
         self.log = pathlib.Path(room) / f"recorder.{time.monotonic_ns()}.log"
-        words = [*RECORDER, "--port", str(port), *options]
+        words = [*wrap, *RECORDER, "--port", str(port), *options]
         for database in databases:
             words += ["--database", database]
         with open(self.log, "wb") as log:
