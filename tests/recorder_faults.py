@@ -164,13 +164,15 @@ class Game:
             process.is_held = False
 
     def stop(self):
-        """A machine stands still for some time, so that PostgreSQL gives up its connection; then it goes on."""
-        machine = self.machines[self.place()]
-        for process in machine:
+        """A machine stands still for some time, so that PostgreSQL gives up its connection, and its clients are handed to the
+        other; then it goes on with what it was about to do."""
+        place = self.place()
+        for process in self.machines[place]:
             process.signal(signal.SIGSTOP)
         self.disconnect()
+        self.forwarder.switch(1 - place)
         time.sleep(self.dice.uniform(0.2, 5))
-        for process in machine:
+        for process in self.machines[place]:
             process.signal(signal.SIGCONT)
 
     def switch(self):
@@ -195,13 +197,13 @@ class Game:
         self.pair.standby.go_on()
 
     def cancel(self):
-        """Cancels what waits for a standby that is paused. Half the time the primary is lost then, with what the standby doesn't
-        have."""
+        """Cancels what waits for a standby that has nothing of it. Half the time the primary is lost then, with all of it."""
         self.pair.standby.pause()
-        time.sleep(0.3)
+        self.pair.primary.ask("select pg_terminate_backend(pid) from pg_stat_replication")
         for _ in range(2):
-            self.pair.primary.ask("select pg_cancel_backend(pid) from pg_stat_activity where wait_event = 'SyncRep'")
             time.sleep(0.3)
+            self.pair.primary.ask("select pg_cancel_backend(pid) from pg_stat_activity where wait_event = 'SyncRep'")
+        time.sleep(0.1)
         if self.dice.random() < 0.5:
             self.pair.primary.kill()
             self.pair.standby.go_on()
