@@ -82,6 +82,7 @@ class Keeper(threading.Thread):
             os._exit(FAILED)
 
     def work(self):
+        """Does what is asked, for ever, and looks whether PostgreSQL is there."""
         looked = 0.0
         while True:
             asked, gone, opens = self.desk.take(PAUSE)

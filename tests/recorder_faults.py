@@ -219,6 +219,7 @@ class Game:
         return sum(self.compare_session(session) for session in SESSIONS)
 
     def compare_session(self, session):
+        """The same of one session."""
         what = f"session {session}"
         lines = self.pair.primary.ask("select entry, role, number, command, seal from entries where session = %s order by entry",
                                       (session,))

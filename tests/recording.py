@@ -1,6 +1,7 @@
 """recording: a recorder as a process, and servers that speak to it, for the tests of the recorder."""
 import contextlib
 import pathlib
+import select
 import socket
 import subprocess
 import time
@@ -129,13 +130,7 @@ class Served:
 
     def waits(self, seconds=0.5):
         """Whether no answer comes in so many seconds."""
-        self.stream.settimeout(seconds)
-        try:
-            return not self.stream.recv(1, socket.MSG_PEEK) and False
-        except TimeoutError:
-            return True
-        finally:
-            self.stream.settimeout(SECONDS)
+        return not select.select([self.stream], [], [], seconds)[0]
 
 
 def opened(recorder, session, protocol=PROTOCOL, seconds=SECONDS):
