@@ -171,7 +171,7 @@ class Game:
             process.signal(signal.SIGSTOP)
         self.disconnect()
         self.forwarder.switch(1 - place)
-        time.sleep(self.dice.uniform(0.2, 5))
+        time.sleep(self.dice.uniform(0.2, 3))
         for process in self.machines[place]:
             process.signal(signal.SIGCONT)
 
