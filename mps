@@ -48,7 +48,7 @@ for order; do
     case $order in -v | --verbose) ;; *) break ;; esac
 done
 case $order in
-'' | --help | -h | help | prove | which | install | explain | journal | sessions | library | api | package | picture | story) ;;
+'' | --help | -h | help | prove | which | install | explain | journal | sessions | library | api | package | picture | story | recorder) ;;
 *)
     program=$here/mps_tool
     if [ -f "$here/installed" ]; then

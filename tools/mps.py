@@ -22,6 +22,9 @@ mps sessions FOLDER [--html FILE|-] [--newest] [--watch]
                                surviving steps no commit makes final, and what is wrong; with --html as a page in that file, or
                                on standard output where it is -; with --newest those first that were changed last; with --watch
                                again every 2 seconds. It asks no server, takes no lock and changes nothing
+mps recorder --port P --database DSN ..
+                               keeps the journals of a server with --journal tcp:P in PostgreSQL, which another machine's server
+                               goes on with; mps recorder --help has the options
 mps api python|rust FILE ROLE [SLOT ..]
                                the role's part of the protocol as classes, by which mypy or rustc finds what the protocol
                                doesn't allow: docs/STATES.md. What it receives goes to these slots, or to slots with the
@@ -85,6 +88,8 @@ USES = {"prove": "", "which": "[--path]", "install": "DIR", "explain": "[--mergi
         "api": "[--merging plain|full] python|rust FILE ROLE [SLOT ..]"}
 PROGRAMS = ("check", "run", "same", "serve", "host")  # the orders of the program
 DRAWING = ("picture", "story")  # the tools in examples
+RECORDER = os.path.join(HOME, "recorder", "recorder.py")
+PYTHON = "/usr/bin/python3"  # the system's, which has the packages that the recorder needs
 BUILDING = ("prove", "library", "package")  # the orders that need the repository
 FULL = (["--merging", "full"], ["--merging=full"])  # the words of which each asks for full merging
 PLAIN = ([], ["--merging", "plain"], ["--merging=plain"])
@@ -211,7 +216,7 @@ def run(program, words):
 
 def main():
     order, *words = past_verbose(sys.argv[1:]) or [""]
-    if order in HELP and words[:1] and words[0] in DRAWING:
+    if order in HELP and words[:1] and words[0] in (*DRAWING, "recorder"):
         order, words = words[0], ["--help"]
     if not sys.argv[1:] or order and asks_for_help([order, *words]):
         (output.write if sys.argv[1:] else output.tell)(help_text(installed()).encode())
@@ -219,6 +224,8 @@ def main():
     words = [word for word in words if word not in VERBOSE]
     if order in DRAWING:
         os.execv(sys.executable, [sys.executable, "-IS", os.path.join(HOME, "examples", order), *words])
+    if order == "recorder":
+        os.execv(PYTHON, [PYTHON, "-I", RECORDER, *words])
     if order in USES and not may_follow(order, words):
         raise building.Stopped(f"usage: mps {order} {USES[order]}")
     if order in USES and "" in words:
