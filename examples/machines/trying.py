@@ -19,18 +19,19 @@ from cizhmolat import Error, NothingQueued, Role  # noqa: E402
 PROTOCOL = str(machines.HERE / "exchange.protocol")
 PAUSE = 0.1  # seconds between two commands of a client
 PATIENCE = 120  # seconds that a client waits for a machine
+ROUNDS = 150  # of one session, after which its two clients go on in another, as new sessions come and go at a server
 STANDS = 1.0  # seconds without an answer from which a session counts as one that stood still
 
 
 class Game:
-    """What the clients of some sessions were answered."""
+    """What clients were answered. At each table two of them play one session after the other."""
 
-    def __init__(self, folder, sessions):
-        self.folder, self.is_over = folder / "numbers", False
+    def __init__(self, folder, first, tables):
+        self.folder, self.first, self.is_over = folder / "numbers", first, False
         self.folder.mkdir()
-        self.heard, self.troubles = [], []
-        self.times = {it: [time.monotonic()] for it in sessions}  # at which an answer came
-        self.clients = [Client(self, session, role) for session in sessions for role in "ab"]
+        self.heard, self.troubles, self.kept = {}, [], 0  # of each session what a role was answered; how many lines are kept
+        self.times = [[time.monotonic()] for _ in range(tables)]  # at which an answer came
+        self.clients = [Client(self, table, role) for table in range(tables) for role in "ab"]
         for client in self.clients:
             client.start()
 
@@ -42,29 +43,28 @@ class Game:
         self.troubles += [f"{it.role} of session {it.session} doesn't end" for it in self.clients if it.is_alive()]
 
     def goes_on(self, since, count=3):
-        """Whether so many answers have come in each session since then."""
-        return all(len(times) >= count and times[-count] > since for times in self.times.values())
+        """Whether so many answers have come at each table since then."""
+        return all(len(times) >= count and times[-count] > since for times in self.times)
 
     def stood(self, begin, end):
-        """For how long each session got no answer between these times, at the longest."""
-        found = {}
-        for session, times in self.times.items():
+        """For how long no answer came between these times, at the longest, at each table."""
+        for times in self.times:
             within = [begin, *(it for it in list(times) if begin < it < end), end]
-            found[session] = max(after - before for before, after in zip(within, within[1:]))
-        return found
+            yield max(after - before for before, after in zip(within, within[1:]))
 
 
 class Client(threading.Thread):
     """Plays a role: the two send each other numbers, in turn."""
 
-    def __init__(self, game, session, role):
+    def __init__(self, game, table, role):
         super().__init__(daemon=True)
-        self.game, self.session, self.role, self.peer = game, session, role, "ab"[role == "a"]
+        self.game, self.table, self.role, self.peer = game, table, role, "ab"[role == "a"]
+        self.session = game.first + table
 
     def note(self, number, command, answer):
         """Notes an answer."""
-        self.game.heard.append((self.session, self.role, number, command, answer))
-        self.game.times[self.session].append(time.monotonic())
+        self.game.heard.setdefault(self.session, []).append((self.role, number, command, answer))
+        self.game.times[self.table].append(time.monotonic())
 
     def run(self):
         while not self.game.is_over:
@@ -75,13 +75,16 @@ class Client(threading.Thread):
                 time.sleep(1)
 
     def play(self):
-        """Plays until the game is over, from where the role stands."""
+        """Plays a session to its end, or until the game is over, from where the role stands, and goes on to the next one."""
         numbers = self.game.folder / f"{self.session}.{self.role}"
         with Role(self.session, self.role, 4750, numbers=numbers, patience=PATIENCE) as role:
             if (given := role.settle()) is not None:
                 self.note(role.newest, given.command, given.answer)
             sends = role.standing().expects.startswith("send")
             while not self.game.is_over:
+                if role.newest == 2 * ROUNDS:
+                    self.session += len(self.game.times)
+                    return
                 if sends:
                     value = role.newest % 1000
                     step = role.send(self.peer, value)
@@ -116,6 +119,7 @@ def compare(game, session):
     """What is wrong with a session: each answer that a client got stands there once, without gaps, and the same lines have the same
     answers where they are run alone."""
     rows, count = lines_of(session)
+    game.kept += count
     if [int(row[3]) for row in rows] != list(range(1, count + 1)):
         yield f"session {session}: {len(rows)} lines, and {count} in its row"
     script = "".join(f"{role} {command}\n" for role, _, command, _ in rows)
@@ -127,7 +131,7 @@ def compare(game, session):
         if (role, int(number)) in told:
             yield f"session {session}: {role} {number} stands there twice"
         told[role, int(number)] = command, answer
-    for _, role, number, *heard in (it for it in game.heard if it[0] == session):
+    for role, number, *heard in game.heard[session]:
         if told.get((role, number)) != tuple(heard):
             yield f"session {session}: {role} {number} was answered {heard}, and kept is {told.get((role, number))}"
 
@@ -158,12 +162,19 @@ class Faults:
     def machine_killed(self):
         return self.without_power(self.server(), self.dice.uniform(3, 30))
 
-    def machine_cut_off(self):
-        machine, seconds = self.server(), self.dice.uniform(3, 20)
+    def cut(self, machine):
+        """Takes the network from a machine for some time."""
+        seconds = self.dice.uniform(3, 20)
         self.world.network.join(machine, False)
         time.sleep(seconds)
         self.world.network.join(machine, True)
         return f"{machine} for {seconds:.0f} s"
+
+    def machine_cut_off(self):
+        return self.cut(self.server())
+
+    def front_cut_off(self):
+        return self.cut("front")
 
     def host_stopped(self):
         machine, seconds = self.world.machines[self.server()], self.dice.uniform(3, 20)
@@ -203,7 +214,7 @@ class Faults:
             return answer.read().decode().strip()
 
 
-KINDS = ("machine_killed", "machine_cut_off", "host_stopped", "host_killed", "recorder_killed", "primary_killed", "primarys_machine_killed",
+KINDS = ("machine_killed", "machine_cut_off", "front_cut_off", "host_stopped", "host_killed", "recorder_killed", "primary_killed", "primarys_machine_killed",
          "standbys_machine_killed", "switchover")
 
 
@@ -214,9 +225,7 @@ class Trial(threading.Thread):
         super().__init__(daemon=True)
         self.dice = random.Random(seed)
         self.faults = Faults(world, self.dice)
-        first = self.dice.randrange(1, 1 << 62)
-        self.sessions = range(first, first + sessions)
-        self.game = Game(world.folder, self.sessions)
+        self.game = Game(world.folder, self.dice.randrange(1, 1 << 62), sessions)
         self.count, self.stood, self.wrong, self.is_over = count, {kind: [] for kind in KINDS}, [], False
 
     def is_well(self):
@@ -242,7 +251,7 @@ class Trial(threading.Thread):
             for kind in order:
                 self.make(kind)
             self.game.end()
-            for session in self.sessions:
+            for session in self.game.heard:
                 self.wrong += compare(self.game, session)
         except BaseException as fault:  # pylint: disable=broad-exception-caught
             self.wrong.append(f"{type(fault).__name__}: {fault}")
@@ -257,11 +266,11 @@ class Trial(threading.Thread):
         what = getattr(self.faults, kind)()
         over = time.monotonic()
         self.wait(f"{kind}, {what}: sessions stand still", lambda: self.game.goes_on(over))
-        stood = [seconds for seconds in self.game.stood(begin, time.monotonic()).values() if seconds >= STANDS]
+        stood = [seconds for seconds in self.game.stood(begin, time.monotonic()) if seconds >= STANDS]
         self.wait(f"{kind}, {what}: not all is back", self.is_well)
         self.stood[kind] += stood
         worst = f", {statistics.median(stood):.1f} s in the middle, {max(stood):.1f} s at worst" if stood else ""
-        print(f"{kind.replace('_', ' ')} ({what}): {len(stood)} of {len(self.sessions)} sessions stood still{worst}", flush=True)
+        print(f"{kind.replace('_', ' ')} ({what}): {len(stood)} of {len(self.game.times)} sessions stood still{worst}", flush=True)
 
     def report(self):
         """Tells what came of it all."""
@@ -271,9 +280,8 @@ class Trial(threading.Thread):
                       f"{max(stood):.1f} s at worst")
         for text in (*self.game.troubles[:20], *self.wrong[:20]):
             print(text)
-        rows = sum(lines_of(session)[1] for session in self.sessions) if not self.wrong else "some"
-        print(f"{self.count} faults: {len(self.game.heard)} answers in {len(self.sessions)} sessions, {rows} lines kept, "
-              f"{len(self.game.troubles)} troubles of clients, {len(self.wrong)} wrong")
+        print(f"{self.count} faults: {sum(map(len, self.game.heard.values()))} answers in {len(self.game.heard)} sessions, "
+              f"{self.game.kept} lines kept, {len(self.game.troubles)} troubles of clients, {len(self.wrong)} wrong")
 
 
 def attempt(world, count, seed, sessions):
