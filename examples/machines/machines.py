@@ -37,7 +37,6 @@ DATABASES = {"pa": "10.77.0.1", "pb": "10.77.0.2", "pc": "10.77.0.3"}
 FRONT = {"front": "10.77.0.20"}
 ADDRESSES = {**SERVERS, **DATABASES, **FRONT}
 TOOLS = {"ip": "iproute2", "haproxy": "haproxy", "patroni": "patroni", "etcd": "etcd-server", "psql": "postgresql"}
-HOST = ["--wait", "60", "--idle", "300", "--keep", "1"]
 USER = "postgres"
 SECONDS = 120  # that a busy machine is given
 LIMIT = 20  # seconds that a command of the system may take
@@ -183,11 +182,17 @@ def as_user():
     return ["setpriv", f"--reuid={USER}", f"--regid={USER}", "--clear-groups"]
 
 
+def settings(file):
+    """The settings in a file of this folder, which a service has in its environment."""
+    lines = (HERE / file).read_text(encoding="ascii").splitlines()
+    return dict(line.split("=", 1) for line in lines if line and line[0] != "#")
+
+
 def database_words(machine, address, folder):
     """What PostgreSQL's machine has in its environment."""
-    lines = (HERE / "database.env").read_text(encoding="ascii").replace("@NAME@", machine).replace("@ADDRESS@", address).splitlines()
-    own = [f"ETCD_DATA_DIR={folder}/etcd", f"PATRONI_POSTGRESQL_DATA_DIR={folder}/data", f"PATRONI_POSTGRESQL_PGPASS={folder}/pass"]
-    return ["env", "LC_ALL=C", f"HOME={folder}", *[line for line in lines if "=" in line and line[0] != "#"], *own]
+    given = {**settings("database.env"), "ETCD_DATA_DIR": f"{folder}/etcd", "PATRONI_POSTGRESQL_DATA_DIR": f"{folder}/data",
+             "PATRONI_POSTGRESQL_PGPASS": f"{folder}/pass", "LC_ALL": "C", "HOME": folder}
+    return ["env", *(f"{key}={value}".replace("@NAME@", machine).replace("@ADDRESS@", address) for key, value in given.items())]
 
 
 class World:
@@ -209,8 +214,11 @@ class World:
         machine.add("patroni", *words, "patroni", HERE / "patroni.yml")
 
     def add_server(self, machine, file, more):
-        machine.add("recorder", fleet.MPS, "recorder", "--port", "4760", *recorder_words())
-        machine.add("host", fleet.MPS, "host", file, "--port", "4751", "--journal", "tcp:4760", *(more or HOST))
+        """Its processes have what their units of systemd give them."""
+        recorder, host = settings("orders.recorder"), settings("orders.env")
+        machine.add("recorder", fleet.MPS, "recorder", "--port", recorder["PORT"], *recorder["DATABASES"].split())
+        machine.add("host", fleet.MPS, "host", "--port", host["PORT"], "--journal", host["JOURNAL"], *(more or host["OPTIONS"].split()),
+                    "--", file)
         machine.add("haproxy", "haproxy", "-db", "-f", HERE / "haproxy.cfg")
 
     def make_folders(self):
@@ -260,12 +268,6 @@ class World:
     def __exit__(self, *_):
         fleet.deafen()
         self.network.remove()
-
-
-def recorder_words():
-    """Which databases a recorder is told of."""
-    return [word for address in DATABASES.values()
-            for word in ("--database", f"postgresql://mps@{address}/mps?connect_timeout=2")]
 
 
 def asked(address):
@@ -345,7 +347,7 @@ def attempt(options, _):
     need()
     import trying  # pylint: disable=import-outside-toplevel
     fleet.heed(fleet.stop)
-    count, seed, sessions = (int(word) for word in (*options.words, *("9", "1", "8")[len(options.words):]))
+    count, seed, sessions = (int(word) for word in (*options.words, *("10", "1", "8")[len(options.words):]))
     with World(options.name, options.folder, trying.PROTOCOL) as world:
         return trying.attempt(world, count, seed, sessions)
 

@@ -214,8 +214,8 @@ class Faults:
             return answer.read().decode().strip()
 
 
-KINDS = ("machine_killed", "machine_cut_off", "front_cut_off", "host_stopped", "host_killed", "recorder_killed", "primary_killed", "primarys_machine_killed",
-         "standbys_machine_killed", "switchover")
+KINDS = ("machine_killed", "machine_cut_off", "front_cut_off", "host_stopped", "host_killed", "recorder_killed", "primary_killed",
+         "primarys_machine_killed", "standbys_machine_killed", "switchover")
 
 
 class Trial(threading.Thread):
@@ -276,8 +276,8 @@ class Trial(threading.Thread):
         """Tells what came of it all."""
         for kind, stood in self.stood.items():
             if stood:
-                print(f"{kind.replace('_', ' ')}: {len(stood)} times a session stood still, {statistics.median(stood):.1f} s in the middle, "
-                      f"{max(stood):.1f} s at worst")
+                print(f"{kind.replace('_', ' ')}: {len(stood)} times a session stood still, {statistics.median(stood):.1f} s in the "
+                      f"middle, {max(stood):.1f} s at worst")
         for text in (*self.game.troubles[:20], *self.wrong[:20]):
             print(text)
         print(f"{self.count} faults: {sum(map(len, self.game.heard.values()))} answers in {len(self.game.heard)} sessions, "
