@@ -1,7 +1,7 @@
 #!/usr/bin/python3
 """machines: sessions that outlive their machine, tried on one machine, in network namespaces that stand for several.
 
-usage: machines.py up [FILE] [options of host]        starts all, for the sessions of the protocol in FILE; Control-C ends all
+usage: machines.py up [FILE [options of host]]        starts all, for the sessions of the protocol in FILE; Control-C ends all
        machines.py kill|start MACHINE                 takes the power from a machine, without a word to others; gives it again
        machines.py cut MACHINE SECONDS                takes the network from a machine for so long
        machines.py at MACHINE COMMAND ..              runs a command on a machine, such as a client at `front`
@@ -9,14 +9,16 @@ usage: machines.py up [FILE] [options of host]        starts all, for the sessio
 
 The machines are m1 and m2, each with a recorder, `./mps host` and haproxy; pa, pb and pc, each with PostgreSQL, Patroni and etcd;
 and front, with the balancer. Their configurations are the files beside this one, as they are. The clients of `try` are at front
-too. Commands but `try` meet at the folder machines, which has the logs and the data, or another that --folder says. It needs root,
-iproute2, haproxy, postgresql, patroni, etcd-server and python3-psycopg2. No traffic leaves the namespaces.
+too. Commands meet at the folder machines, which has the logs and the data, or another that --folder says before the command; and
+--name there has namespaces of other names, so that several are up at once. No traffic leaves the namespaces. It needs root,
+iproute2, haproxy, postgresql, patroni, etcd-server and python3-psycopg2.
 
 `NAME is process ID` is printed whenever a process is started, as one is again that ended, and `listening 4750` once all is there.
 """
 import argparse
 import contextlib
 import ctypes
+import glob
 import json
 import os
 import pathlib
@@ -190,8 +192,9 @@ def settings(file):
 
 def database_words(machine, address, folder):
     """What PostgreSQL's machine has in its environment."""
+    newest = max(glob.glob("/usr/lib/postgresql/*/bin"), key=lambda path: int(path.split("/")[4]))
     given = {**settings("database.env"), "ETCD_DATA_DIR": f"{folder}/etcd", "PATRONI_POSTGRESQL_DATA_DIR": f"{folder}/data",
-             "PATRONI_POSTGRESQL_PGPASS": f"{folder}/pass", "LC_ALL": "C", "HOME": folder}
+             "PATRONI_POSTGRESQL_PGPASS": f"{folder}/pass", "PATRONI_POSTGRESQL_BIN_DIR": newest, "LC_ALL": "C", "HOME": folder}
     return ["env", *(f"{key}={value}".replace("@NAME@", machine).replace("@ADDRESS@", address) for key, value in given.items())]
 
 
@@ -331,23 +334,23 @@ def make_database():
 
 # --- Commands ---
 
-def up(options, more):
+def up(options):
     """Starts all, and looks after it without an end."""
     need()
     fleet.heed(fleet.stop)
-    with World(options.name, options.folder, os.path.abspath(options.words[0] if options.words else HERE.parent / "relay.protocol"),
-               more) as world:
+    file, *more = options.words or [HERE.parent / "relay.protocol"]
+    with World(options.name, options.folder, os.path.abspath(file), more) as world:
         while True:
             time.sleep(fleet.LOOK)
             world.look()
 
 
-def attempt(options, _):
+def attempt(options):
     """Starts all, and tries it."""
     need()
     import trying  # pylint: disable=import-outside-toplevel
     fleet.heed(fleet.stop)
-    count, seed, sessions = (int(word) for word in (*options.words, *("10", "1", "8")[len(options.words):]))
+    count, seed, sessions = (int(word) for word in (*options.words, *("12", "1", "8")[len(options.words):]))
     with World(options.name, options.folder, trying.PROTOCOL) as world:
         return trying.attempt(world, count, seed, sessions)
 
@@ -359,28 +362,31 @@ def named(options):
     return options.words[0]
 
 
-def power(options, _):
+def power(options):
     """Takes the power from a machine, or gives it again."""
     off = options.folder / f"{named(options)}.off"
+    if not options.folder.is_dir():
+        sys.exit(f"nothing was started in {options.folder}")
     if options.order == "kill":
         off.touch()
     else:
         off.unlink(missing_ok=True)
 
 
-def cut(options, _):
+def cut(options):
     """Takes the network from a machine for some time."""
     network, machine = Network(options.name), named(options)
+    seconds = float(options.words[1]) if len(options.words) == 2 else sys.exit("for how many seconds?")
     network.join(machine, False)
     try:
-        time.sleep(float(options.words[1]))
+        time.sleep(seconds)
     finally:
         network.join(machine, True)
 
 
-def at(options, more):
+def at(options):
     """Runs a command on a machine."""
-    os.execvp("ip", ["ip", "netns", "exec", Network(options.name).space(named(options)), *options.words[1:], *more])
+    os.execvp("ip", ["ip", "netns", "exec", Network(options.name).space(named(options)), *options.words[1:]])
 
 
 ORDERS = {"up": up, "try": attempt, "kill": power, "start": power, "cut": cut, "at": at}
@@ -391,10 +397,10 @@ def main():
     reader.add_argument("--name", default="mps")
     reader.add_argument("--folder", type=pathlib.Path, default=pathlib.Path("machines"))
     reader.add_argument("order", choices=ORDERS)
-    reader.add_argument("words", nargs="*")
-    options, more = reader.parse_known_args()
+    reader.add_argument("words", nargs=argparse.REMAINDER)
+    options = reader.parse_args()
     options.folder = options.folder.absolute()
-    sys.exit(ORDERS[options.order](options, more))
+    sys.exit(ORDERS[options.order](options))
 
 
 if __name__ == "__main__":

@@ -148,19 +148,20 @@ class Faults:
         """A PostgreSQL of that role, which has to be there."""
         return next(name for name, found in machines.roles().items() if found == role)
 
-    def without_power(self, machine, seconds):
-        """Takes the power from a machine for so long."""
-        off = self.world.machines[machine].off
-        off.touch()
+    def without_power(self, seconds, *names):
+        """Takes the power from machines for so long."""
+        for name in names:
+            self.world.machines[name].off.touch()
         time.sleep(seconds)
-        off.unlink()
-        return f"{machine} for {seconds:.0f} s"
+        for name in names:
+            self.world.machines[name].off.unlink()
+        return f"{' '.join(names)} for {seconds:.0f} s"
 
     def server(self):
         return self.dice.choice(list(machines.SERVERS))
 
     def machine_killed(self):
-        return self.without_power(self.server(), self.dice.uniform(3, 30))
+        return self.without_power(self.dice.uniform(3, 30), self.server())
 
     def cut(self, machine):
         """Takes the network from a machine for some time."""
@@ -202,10 +203,16 @@ class Faults:
         return name
 
     def primarys_machine_killed(self):
-        return self.without_power(self.with_role("leader"), self.dice.uniform(15, 40))
+        return self.without_power(self.dice.uniform(15, 40), self.with_role("leader"))
 
     def standbys_machine_killed(self):
-        return self.without_power(self.with_role("sync_standby"), self.dice.uniform(5, 20))
+        return self.without_power(self.dice.uniform(5, 20), self.with_role("sync_standby"))
+
+    def two_databases_killed(self):
+        return self.without_power(self.dice.uniform(5, 20), self.with_role("leader"), self.with_role("sync_standby"))
+
+    def all_machines_killed(self):
+        return self.without_power(self.dice.uniform(3, 10), *machines.SERVERS, *machines.DATABASES)
 
     def switchover(self):
         words = {"leader": self.with_role("leader"), "candidate": self.with_role("sync_standby")}
@@ -215,7 +222,7 @@ class Faults:
 
 
 KINDS = ("machine_killed", "machine_cut_off", "front_cut_off", "host_stopped", "host_killed", "recorder_killed", "primary_killed",
-         "primarys_machine_killed", "standbys_machine_killed", "switchover")
+         "primarys_machine_killed", "standbys_machine_killed", "two_databases_killed", "all_machines_killed", "switchover")
 
 
 class Trial(threading.Thread):
