@@ -77,7 +77,7 @@ class Client(threading.Thread):
     def play(self):
         """Plays a session to its end, or until the game is over, from where the role stands, and goes on to the next one."""
         numbers = self.game.folder / f"{self.session}.{self.role}"
-        with Role(self.session, self.role, 4750, numbers=numbers, patience=PATIENCE) as role:
+        with Role(self.session, self.role, 4750, numbers=numbers, timeout=PATIENCE, patience=PATIENCE) as role:
             if (given := role.settle()) is not None:
                 self.note(role.newest, given.command, given.answer)
             sends = role.standing().expects.startswith("send")
