@@ -1,6 +1,5 @@
 """trying: clients that play sessions on the machines while one part after the other fails, and what became of what they were told."""
 import contextlib
-import json
 import os
 import pathlib
 import random
@@ -10,7 +9,6 @@ import subprocess
 import sys
 import threading
 import time
-import urllib.request
 
 sys.path.insert(0, str(pathlib.Path(__file__).resolve().parent.parent.parent / "clients" / "python"))
 import machines  # noqa: E402
@@ -145,8 +143,13 @@ class Faults:
         self.world, self.dice = world, dice
 
     def with_role(self, role):
-        """A PostgreSQL of that role, which has to be there."""
-        return next(name for name, found in machines.roles().items() if found == role)
+        """A PostgreSQL of that role, which has to be there soon."""
+        for _ in range(10 * machines.LIMIT):
+            for name, found in machines.roles().items():
+                if found == role:
+                    return name
+            time.sleep(0.1)
+        raise RuntimeError(f"no PostgreSQL is the {role}")
 
     def without_power(self, seconds, *names):
         """Takes the power from machines for so long."""
@@ -215,10 +218,8 @@ class Faults:
         return self.without_power(self.dice.uniform(3, 10), *machines.SERVERS, *machines.DATABASES)
 
     def switchover(self):
-        words = {"leader": self.with_role("leader"), "candidate": self.with_role("sync_standby")}
-        address = machines.DATABASES[words["leader"]]
-        with urllib.request.urlopen(f"http://{address}:8008/switchover", json.dumps(words).encode(), timeout=60) as answer:
-            return answer.read().decode().strip()
+        machines.call("patronictl", "-c", str(machines.HERE / "patroni.yml"), "switchover", "--force")
+        return f"to {self.with_role('leader')}"
 
 
 KINDS = ("machine_killed", "machine_cut_off", "front_cut_off", "host_stopped", "host_killed", "recorder_killed", "primary_killed",
