@@ -83,7 +83,7 @@ for file in $(find . ! -type d | sort); do
     *) put "$file" "$prefix/${file#./}" ;;
     esac
 done
-for file in lib/pkgconfig/cizhmolat.pc lib/systemd/system/mps-host@.service; do
+for file in lib/pkgconfig/cizhmolat.pc lib/systemd/system/mps-host@.service lib/systemd/system/mps-recorder@.service; do
     sed "s|/usr/local|$prefix|g" "$here/files/$file" >"$prefix/$file"
 done
 printf %s "$made" >"$list"

@@ -20,7 +20,8 @@ import time
 import psycopg2
 import psycopg2.extensions
 
-# Says to both ends when a connection whose other end is gone has ended: after some ten seconds.
+# Says to both ends when a connection whose other end is gone has ended: to this one after some ten seconds, to PostgreSQL after
+# five. There the limit of keepalives isn't enough: none is sent while an answer is on its way.
 LIVE = {"keepalives_idle": 3, "keepalives_interval": 2, "keepalives_count": 3, "tcp_user_timeout": 9000}
 SET = """
 set synchronous_commit = on;
@@ -29,9 +30,10 @@ set client_min_messages = warning;
 set lock_timeout = 0;
 set statement_timeout = 0;
 set idle_session_timeout = 0;
-set tcp_keepalives_idle = 5;
-set tcp_keepalives_interval = 2;
+set tcp_keepalives_idle = 2;
+set tcp_keepalives_interval = 1;
 set tcp_keepalives_count = 3;
+set tcp_user_timeout = '5s';
 set client_connection_check_interval = '5s'"""
 LOOK = """
 select pg_is_in_recovery(), current_setting('synchronous_standby_names') <> '' and current_setting('max_wal_senders')::int > 0,

@@ -144,7 +144,7 @@ class Keeper(threading.Thread):
             self.answer(server, b"refused table\n", True)
         else:
             tell(f"session {taken.session}: taken by holder {taken.holder}, {taken.entries} entries")
-            self.answer(server, b"entries %d %d\n" % (taken.entries, taken.size) + journal, False)
+            self.answer(server, b"journal %d\n" % taken.size + journal, False)
 
     # --- Sessions that are open ---
 

@@ -132,10 +132,10 @@ def of_pages(made):
 
 
 def of_server(layout):
-    """The unit of systemd, and the settings of an instance."""
-    unit = (FROM / "mps-host@.service").read_text(encoding="utf-8")
-    unit = unit.replace("BIN/", f"/{layout.prefix}bin/").replace("ETC/", f"/{layout.settings}/")
-    yield f"{layout.prefix}lib/systemd/system/mps-host@.service", unit.encode()
+    """The units of systemd, and the settings of an instance."""
+    for file in sorted(FROM.glob("*.service")):
+        unit = file.read_text(encoding="utf-8").replace("BIN/", f"/{layout.prefix}bin/").replace("ETC/", f"/{layout.settings}/")
+        yield f"{layout.prefix}lib/systemd/system/{file.name}", unit.encode()
     yield f"{layout.settings}/relay.env", (FROM / "relay.env").read_bytes()
     yield f"{layout.settings}/relay.protocol", text_of("examples", "relay.protocol").encode()
 
