@@ -82,10 +82,9 @@ class Served:
         self.file = self.stream.makefile("rb")
         self.send(b"open %d %s\n" % (session, protocol))
         self.answer = self.line()
-        self.journal, self.count = b"", 0
-        if self.answer.startswith(b"entries "):
-            self.count, size = map(int, self.answer.split()[1:])
-            self.journal = self.file.read(size)
+        self.journal = b""
+        if self.answer.startswith(b"journal "):
+            self.journal = self.file.read(int(self.answer.split()[1]))
         self.read = journals.read(self.journal, journals.first_seal(protocol, session))
         self.seal = self.read.seal
 
@@ -138,7 +137,7 @@ def opened(recorder, session, protocol=PROTOCOL, seconds=SECONDS):
     end = time.monotonic() + seconds
     while True:
         found = Served(recorder, session, protocol)
-        if found.answer.startswith(b"entries ") or time.monotonic() > end:
+        if found.answer.startswith(b"journal ") or time.monotonic() > end:
             return found
         found.close()
         time.sleep(0.05)
