@@ -1,6 +1,6 @@
 -- What lines are answered in a room of one protocol.
-use Rattle.std.proofs.Common.{◌≡◌, ◌≢◌, ◌<◌, ◌∙◌, ℕ, Bool, true, false, List, length, Option, Some, None, get_or, map, ⊎_elim, refl, sym, subst}
-use Rattle.std.specs.Prelude.{if◌then◌else◌, slice_get, All}
+use Rattle.std.proofs.Common.{◌≡◌, ◌≢◌, ◌∙◌, ℕ, Bool, true, false, List, Option, Some, None, get_or, ⊎_elim, sym, ap, subst}
+use Rattle.std.specs.Prelude.{if◌then◌else◌, option_map, slice_get, All}
 use Rattle.std.proofs.lemmas.Bool.Decides.{eqb_tells}
 use Rattle.std.proofs.lemmas.List.Elements.{All-map}
 use Rattle.std.proofs.lemmas.Option.{get_or_from_slice_get, same_Some, slice_get-get_or, slice_get-map, slice_get_within}
@@ -50,7 +50,7 @@ kept_free merging text e kept =
     let all = lines_keep kept.names kept.types _ led.lines _ blank led.restored in
     record {
       of_one_protocol = subst AreOfOneProtocol (sym led.types_are) (one_protocol merging text kept.names kept.types kept.of_text);
-      keep_none = each_place KeepsNoMismatch e.numbers (λ k n at. accepted_is_other n.newest (at_place KeepsAccepted (newest_of e.numbers) k n.newest all (slice_get-map (λ (x : Numbers). x.newest) e.numbers k n at)));
+      keep_none = each_place KeepsNoMismatch e.numbers (λ k n at. accepted_is_other n.newest (at_place KeepsAccepted (newest_of e.numbers) k n.newest all (slice_get-map (λ (x : Numbers). x.newest) e.numbers k ∙ ap (option_map (λ (x : Numbers). x.newest)) at)));
     }
 
 -- ---- lines
@@ -75,7 +75,7 @@ module _ (before : EmbeddedState) (role : ℕ) (line : List ℕ) (after : Embedd
   numbers_free : (k : ℕ) (n : Numbers) → slice_get after.numbers k ≡ Some n → KeepsNoMismatch n
   numbers_free k n at =
       ⊎_elim
-      (λ same. subst KeepsNoMismatch (same_Some (sym (subst (λ (p : ℕ). slice_get after.numbers p ≡ Some a.left.numbers) (sym same.1) a.ends.numbers) ∙ at)) replied.1.keeps_none)
+      (λ same. subst KeepsNoMismatch (same_Some a.left.numbers n (sym (subst (λ (p : ℕ). slice_get after.numbers p ≡ Some a.left.numbers) (sym same.1) a.ends.numbers) ∙ at)) replied.1.keeps_none)
       (λ other. at_place KeepsNoMismatch before.numbers k n free.keep_none (sym (a.others k other.1) ∙ at))
       (eqb_tells k role)
 
