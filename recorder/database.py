@@ -4,13 +4,15 @@ What PostgreSQL says was committed is with its standby too, unless
 
 - the wait for the standby was cancelled: then it says so by a warning. Any warning counts, since its words are in the language
   of the database;
-- no standby is set, or none any more: then it says nothing. So it is looked at after each commit. A process of PostgreSQL
-  reads the settings anew before its next statement, and is told to before those who wait are let go of.
+- no standby is set, or none was for a moment: then it says nothing. So after each commit it is looked at whether one is set,
+  and whether the settings were read anew meanwhile. A process of PostgreSQL does so before its next statement, and is told to
+  before those who wait are let go of.
 
-Then the statement is given again, on a new connection. What an earlier one left becomes visible there, though the standby may
-not have it yet; but a commit waits until the standby has all that was written before it.
+Then the statement is given again. What it left before is visible by then, though the standby may not have it yet; but a commit
+waits until the standby has all that was written before it.
 """
 import collections
+import contextlib
 import select
 import sys
 import time
@@ -32,7 +34,8 @@ set tcp_keepalives_interval = 2;
 set tcp_keepalives_count = 3;
 set client_connection_check_interval = '5s'"""
 LOOK = """
-select pg_is_in_recovery(), current_setting('synchronous_standby_names') <> '' and current_setting('max_wal_senders')::int > 0"""
+select pg_is_in_recovery(), current_setting('synchronous_standby_names') <> '' and current_setting('max_wal_senders')::int > 0,
+    pg_conf_load_time()"""
 CONNECTING = 2  # seconds that a connection may take to be made
 GRACE = 3  # seconds in which those whose connection broke take their locks again, before others may
 LEAST, MOST = 0.05, 1  # seconds until a statement is given again
@@ -44,10 +47,8 @@ class Away(Exception):
 
 def tell(text):
     """Says something to who operates the recorder."""
-    try:
-        print(text, file=sys.stderr, flush=True)
-    except OSError:
-        pass  # nobody listens
+    with contextlib.suppress(OSError):
+        sys.stderr.write(f"{text}\n")
 
 
 def described(name):
@@ -70,6 +71,7 @@ class Database:
         self.names, self.patience, self.is_lone = collections.deque(names), patience, is_lone
         self.begin, self.went = begin, went
         self.connection, self.is_there, self.said = None, False, set()
+        self.loaded = None  # when the connection's process read the settings last
         self.times = 0  # that a connection was made
         self.calm = 0.0  # when others have had the time to take their locks again
         psycopg2.extensions.set_wait_callback(self.wait)
@@ -99,15 +101,9 @@ class Database:
     def other_may_be_written(self):
         """Whether another of the databases answers, and isn't a standby."""
         for name in list(self.names)[1:]:
-            try:
-                other = psycopg2.connect(name, **LIVE)
-                try:
-                    self.look(other)
-                    return True
-                finally:
-                    other.close()
-            except (psycopg2.Error, Away):
-                pass
+            with contextlib.suppress(psycopg2.Error, Away), contextlib.closing(psycopg2.connect(name, **LIVE)) as other:
+                self.look(other)
+                return True
         return False
 
     def go_away(self, why):
@@ -122,21 +118,22 @@ class Database:
     # --- The connection ---
 
     def look(self, connection):
-        """Sees to it that the database may be written to."""
+        """Sees to it that the database may be written to. When it read its settings last."""
         with connection.cursor() as cursor:
             cursor.execute(LOOK)
-            is_standby, has_standby = cursor.fetchone()
+            is_standby, has_standby, loaded = cursor.fetchone()
         if is_standby:
             raise Away("it is a standby")
         if not has_standby and not self.is_lone:
             raise Away("no synchronous standby is set (synchronous_standby_names)")
+        return loaded
 
     def connect(self):
         """Makes the connection to the first database of the list."""
         made = psycopg2.connect(self.names[0], **LIVE)
         try:
             made.autocommit = True
-            self.look(made)
+            self.loaded = self.look(made)
             with made.cursor() as cursor:
                 cursor.execute(SET)
         except BaseException:
@@ -159,14 +156,16 @@ class Database:
 
     def committed(self, statement, words=None):
         """The rows of a statement that was committed, with the standby too, on the connection that there is."""
-        del self.connection.notices[:]
-        with self.connection.cursor() as cursor:
-            cursor.execute(statement, words)
-            rows = cursor.fetchall() if cursor.description else []
-        if self.connection.notices:
-            raise Away(first_line(self.connection.notices[0]))
-        self.look(self.connection)
-        return rows
+        while True:
+            del self.connection.notices[:]
+            with self.connection.cursor() as cursor:
+                cursor.execute(statement, words)
+                rows = cursor.fetchall() if cursor.description else []
+            if self.connection.notices:
+                raise Away(first_line(self.connection.notices[0]))
+            before, self.loaded = self.loaded, self.look(self.connection)
+            if self.loaded == before:
+                return rows
 
     def ask(self, statement, words=None):
         """The same. Where it raises Away the connection is gone, and whether the statement was run isn't known; else it is the

@@ -1,8 +1,10 @@
 """keeper: does what servers ask of the database, in a thread of its own."""
 import collections
 import contextlib
+import os
 import threading
 import time
+import traceback
 
 from database import Away, tell
 from lines import Growth, Unreadable
@@ -11,6 +13,7 @@ from tables import Changed, Taken, Tables
 PAUSE = 1.0  # seconds until the database is looked at where nobody asks
 MOST_SESSIONS = 200  # that are opened together
 MOST_LINES = 5_000  # that are added together, and those of one server more
+FAILED = 1  # the status where something happens that nobody foresaw
 ELSEWHERE, LOST = b"elsewhere\n", b"lost\n"
 
 
@@ -71,6 +74,14 @@ class Keeper(threading.Thread):
         self.held = {}  # sessions
 
     def run(self):
+        """Ends the process where it fails: what waits for it would wait for ever."""
+        try:
+            self.work()
+        finally:
+            traceback.print_exc()
+            os._exit(FAILED)
+
+    def work(self):
         looked = 0.0
         while True:
             asked, gone, opens = self.desk.take(PAUSE)

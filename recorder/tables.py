@@ -143,7 +143,8 @@ class Tables:
     def take(self, protocols, gone):
         """Takes these sessions, each with its protocol: those of that protocol that no recorder has, or one of those that are
         gone."""
-        rows = self.database.ask(TAKE, (self.recorder, list(protocols), list(protocols.values()), list(gone)))
+        sessions = sorted(protocols)  # so that two recorders don't wait for each other
+        rows = self.database.ask(TAKE, (self.recorder, sessions, [protocols[it] for it in sessions], list(gone)))
         return {int(row[0]): Taken(int(row[0]), *row[1:]) for row in rows}
 
     def read(self, taken):
@@ -158,7 +159,7 @@ class Tables:
     def add(self, grown):
         """Adds what these sessions grew by, each with its holder: the sessions whose holder it is still."""
         rows, lines = [], []
-        for (session, holder), growth in grown.items():
+        for (session, holder), growth in sorted(grown.items(), key=lambda it: it[0]):
             entries, size = growth.before
             rows.append((session, holder, entries, growth.entries, size, growth.size, growth.mark))
             for place, entry in enumerate(growth.added, entries + 1):
@@ -168,4 +169,4 @@ class Tables:
 
     def leave(self, sessions):
         """Has other recorders take these sessions."""
-        self.database.insist(LEAVE, 2 * (list(sessions), self.recorder))
+        self.database.insist(LEAVE, 2 * (sorted(sessions), self.recorder))

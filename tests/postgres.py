@@ -20,9 +20,11 @@ wal_log_hints = on
 shared_buffers = 32MB
 max_connections = 40
 wal_sender_timeout = 5s
+wal_retrieve_retry_interval = 200ms
 """
 SECONDS = 60  # that a busy machine is given
 USER = "postgres"
+DATABASE = "mps"  # and the name of its owner
 
 
 def folder():
@@ -42,7 +44,7 @@ class Postgres:
     def __init__(self, room, name, other):
         self.name, self.other = name, other
         self.folder, self.data = room / name, room / name / "data"
-        self.dsn = f"host={self.folder} user={USER} dbname={USER} connect_timeout=2"
+        self.dsn = f"host={self.folder} user={DATABASE} dbname={DATABASE}"
         self.folder.mkdir()
         if as_user():
             shutil.chown(self.folder, USER, USER)
@@ -51,7 +53,7 @@ class Postgres:
         """Runs one of its programs."""
         return subprocess.run([*as_user(), f"{folder()}/{program}", *map(str, words)], check=check, stdin=subprocess.DEVNULL,
                               stdout=subprocess.PIPE, stderr=subprocess.STDOUT, text=True, cwd="/", timeout=2 * SECONDS,
-                              env={**os.environ, "LC_ALL": "C"})
+                              env={**os.environ, "LC_ALL": "C", "PGOPTIONS": "-c synchronous_commit=local"})
 
     def configure(self):
         """Each has the other for its standby, from the beginning: one that is promoted commits nothing before it has one."""
@@ -59,17 +61,19 @@ class Postgres:
             file.write(f"{SETTINGS}unix_socket_directories = '{self.folder}'\nsynchronous_standby_names = '{self.other}'\n")
 
     def make(self):
-        """Begins as a primary, with an empty database."""
+        """Begins as a primary, with an empty database of a user without rights."""
         self.call("initdb", "-D", self.data, "-U", USER, "-A", "trust", "-E", "UTF8", "--no-sync")
         self.configure()
         self.start()
+        self.call("createuser", "-h", self.folder, DATABASE)
+        self.call("createdb", "-h", self.folder, "--owner", DATABASE, DATABASE)
 
     def copy(self, primary):
         """Becomes the standby of another, anew."""
         shutil.rmtree(self.data, ignore_errors=True)
         primary.ask("select pg_drop_replication_slot(slot_name) from pg_replication_slots where not active")
         self.call("pg_basebackup", "-c", "fast", "-d", f"host={primary.folder} user={USER} application_name={self.name}", "-D", self.data,
-                  "-R", "-X", "stream", "-C", "-S", self.name)
+                  "-R", "-X", "stream", "-C", "-S", self.name, "--no-sync")
         self.configure()
         self.start()
 
@@ -81,7 +85,7 @@ class Postgres:
 
     def ask(self, statement, words=None):
         """The rows of a statement, which waits for no standby."""
-        with contextlib.closing(psycopg2.connect(self.dsn)) as made:
+        with contextlib.closing(psycopg2.connect(f"host={self.folder} user={USER} dbname={DATABASE} connect_timeout=2")) as made:
             made.autocommit = True
             with made.cursor() as cursor:
                 cursor.execute("set synchronous_commit = local")

@@ -60,9 +60,9 @@ class Recorder:
         return ask(self.port, b"status\n")
 
 
-def ask(port, text):
+def ask(port, text, seconds=SECONDS):
     """All that a connection is answered that sends this."""
-    with socket.create_connection(("127.0.0.1", port), timeout=SECONDS) as stream:
+    with socket.create_connection(("127.0.0.1", port), timeout=seconds) as stream:
         stream.sendall(text)
         found = b""
         with contextlib.suppress(ConnectionError):
@@ -99,7 +99,8 @@ class Served:
         self.stream.close()
 
     def send(self, data):
-        self.stream.sendall(data)
+        with contextlib.suppress(ConnectionError):
+            self.stream.sendall(data)
 
     def line(self):
         """The next line of the recorder; what came of it, where the connection ends."""

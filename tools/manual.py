@@ -76,8 +76,8 @@ def own_order(name, help_text, use, merging):
 
 
 def orders(program, tools, help_text, uses):
-    """All orders in the help of mps, in its order. Those of the program, and of the tools in that folder, have options of their
-    own; `uses` has those of the others."""
+    """All orders in the help of mps, in its order. Those of the program have options of their own, and so have those of which
+    `tools` has the file; `uses` has those of the others."""
     found, merging = {}, next(it for it in program_order(program, "check").options if it.names[-1] == "--merging")
     for use, text in entries(help_text):
         name = use.split()[0]
@@ -85,8 +85,8 @@ def orders(program, tools, help_text, uses):
             continue
         if name in uses:
             found[name] = own_order(name, help_text, uses[name], merging)
-        elif (tools / name).exists():
-            found[name] = Order(name, text, list(listed_options((tools / name).read_text(encoding="utf-8").split('"""')[1])))
+        elif name in tools:
+            found[name] = Order(name, text, list(listed_options(tools[name].read_text(encoding="utf-8").split('"""')[1])))
         else:
             found[name] = program_order(program, name)
     return list(found.values())

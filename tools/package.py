@@ -29,6 +29,7 @@ NAME = "cizhmolat"
 MAINTAINER = "Cizhmolat maintainers <maintainers@users.noreply.cizhmolat.example>"
 SUMMARY = "monitor of sessions whose steps can be taken back"
 RUN = ("mps.py", "story", "picture")  # what is started of tools and examples
+TOOLS = {"story": ROOT / "examples" / "story", "picture": ROOT / "examples" / "picture", "recorder": ROOT / "recorder" / "recorder.py"}
 PAGES = ("TOUR", "DESIGNING", "OPERATING", "EMBEDDING", "STATES", "FORMATS")  # of docs, for users
 MODULES = (*sorted((ROOT / "clients" / "python").glob("*.py")), ROOT / "bindings" / "python" / "cizhmolat_embed.py")
 CONFIGURED = ("etc/cizhmolat/relay.env", "etc/cizhmolat/relay.protocol")
@@ -91,7 +92,8 @@ def of_program(made, layout):
     """What `mps` is made of, in lib/cizhmolat."""
     started = [ROOT / ("tools" if name.endswith(".py") else "examples") / name for name in RUN]
     of_sessions = [file for file in MODULES if file.stem in ("cizhmolat", "cizhmolat_embed")]
-    for file in (ROOT / "mps", *started, *imported(started), *sorted((ROOT / "tools" / "story").iterdir()), *of_sessions):
+    of_recorder = sorted((ROOT / "recorder").glob("*.py"))
+    for file in (ROOT / "mps", *started, *imported(started), *sorted((ROOT / "tools" / "story").iterdir()), *of_sessions, *of_recorder):
         yield f"lib/cizhmolat/{file.relative_to(ROOT)}", file.read_bytes()
     yield "lib/cizhmolat/mps_tool", pathlib.Path(made.program).read_bytes()
     yield "lib/cizhmolat/installed", f"{made.kind} {made.sources} {os.path.relpath(layout.library, 'lib/cizhmolat')}\n".encode()
@@ -215,7 +217,7 @@ def control(made, files):
     """The files with which dpkg installs these files."""
     size = sum(-(-len(content) // 1024) if isinstance(content, bytes) else 1 for content in files.values())
     text = (f"Package: {NAME}\nVersion: {made.version}\nArchitecture: amd64\nMaintainer: {MAINTAINER}\nInstalled-Size: {size}\n"
-            f"Depends: libc6 (>= 2.28), python3\nSection: net\nPriority: optional\nDescription: {SUMMARY}\n{described(made)}\n")
+            f"Depends: libc6 (>= 2.28), python3\nSuggests: postgresql, python3-psycopg2\nSection: net\nPriority: optional\nDescription: {SUMMARY}\n{described(made)}\n")
     sums = "".join(f"{hashlib.md5(content).hexdigest()}  {path}\n" for path, content in sorted(files.items())
                    if isinstance(content, bytes) and path not in CONFIGURED)
     settings = "".join(f"/{path}\n" for path in CONFIGURED)
@@ -261,7 +263,7 @@ def make(folder, program, sources, help_text, uses):
             for name, words in zip(library.FILES, (["--strip-debug"], ["--strip-unneeded"])):
                 stripped(os.path.join(there, name), room, words)
             made = Made(stripped(program, room, []), built(sources)[0], room, library_kind, sources, version, date, help_text,
-                        manual.orders(program, ROOT / "examples", help_text, uses))
+                        manual.orders(program, TOOLS, help_text, uses))
             files = {f"{NAME}_{version}_amd64.deb": debian(made), f"{NAME}-{version}-x86_64.tar.gz": local(made)}
     except (library.NotMade, checked_build.NotAsExpected) as reason:
         raise building.Stopped(f"the packages can't be made: {reason}") from reason
