@@ -16,12 +16,14 @@ mps explain FILE SCRIPT        of each line of the script that is refused or unr
 mps journal FILE [--script]    what the file of a recorded session has, FOLDER/K.journal: how many entries, each role's newest
                                number, and the first line that is wrong, if one is; with --script its lines as a script.
                                It asks no server; ends with 3 where a line is wrong, and else with 0
-mps sessions FOLDER [--html FILE|-] [--newest] [--watch]
+mps sessions FOLDER|--database DSN [--html FILE|-] [--newest] [--watch]
                                who is there, of the sessions that a folder records: of each how many entries it has, the time
                                since its file was changed last, what each role may do next, who waits for whom, how many
-                               surviving steps no commit makes final, and what is wrong; with --html as a page in that file, or
-                               on standard output where it is -; with --newest those first that were changed last; with --watch
-                               again every 2 seconds. It asks no server, takes no lock and changes nothing
+                               surviving steps no commit makes final, and what is wrong; with --database of those that
+                               recorders keep in that PostgreSQL, also which recorder has each, from a snapshot, for which a
+                               standby will do; with --html as a page in that file, or on standard output where it is -; with
+                               --newest those first that were changed last; with --watch again every 2 seconds. It asks no
+                               server, takes no lock and changes nothing
 mps recorder --port P --database DSN ..
                                keeps the journals of a server with --journal tcp:P in PostgreSQL, which another machine's server
                                goes on with; mps recorder --help has the options
@@ -84,12 +86,12 @@ from sources import HOME, built, digest, installed, noted_digest  # noqa: E402
 # the words that each order of mps itself may have after it
 USES = {"prove": "", "which": "[--path]", "install": "DIR", "explain": "[--merging plain|full] FILE [SCRIPT]", "library": "DIR",
         "package": "DIR", "journal": "[--merging plain|full] FILE [--script] | --remove FOLDER K",
-        "sessions": "[--merging plain|full] FOLDER [--html FILE|-] [--newest] [--watch]",
+        "sessions": "[--merging plain|full] FOLDER|--database DSN [--html FILE|-] [--newest] [--watch]",
         "api": "[--merging plain|full] python|rust FILE ROLE [SLOT ..]"}
 PROGRAMS = ("check", "run", "same", "serve", "host")  # the orders of the program
 DRAWING = ("picture", "story")  # the tools in examples
 RECORDER = os.path.join(HOME, "recorder", "recorder.py")
-PYTHON = "/usr/bin/python3"  # the system's, which has the packages that the recorder needs
+PYTHON = "/usr/bin/python3"  # the system's, which has the package that speaks to PostgreSQL
 BUILDING = ("prove", "library", "package")  # the orders that need the repository
 FULL = (["--merging", "full"], ["--merging=full"])  # the words of which each asks for full merging
 PLAIN = ([], ["--merging", "plain"], ["--merging=plain"])
@@ -170,6 +172,14 @@ def library_folder():
     return found[1] if found else building.check(building.LIBRARY, sources)
 
 
+def who_is_there(option, words):
+    """The status of `sessions`, with the words that say how branches are merged. A database needs a python with packages."""
+    wanted = sessions.asked(words)
+    if wanted.database is not None and sys.flags.no_site and os.path.exists(PYTHON):
+        os.execv(PYTHON, [PYTHON, "-I", *sys.argv])
+    return sessions.run(option in FULL, library_folder(), wanted)
+
+
 def refused_file(program, words):
     """The file with a protocol among these words, if the program refuses it."""
     merging, words = merging_in(past_verbose(words))
@@ -236,8 +246,7 @@ def main():
     if installed() and order in BUILDING:
         raise building.Stopped(f"mps {order} builds from the repository of Cizhmolat, and this mps was installed from a package")
     if order == "sessions":
-        option, words = merging_in(words)
-        sys.exit(sessions.run(option in FULL, library_folder(), sessions.asked(words)))
+        sys.exit(who_is_there(*merging_in(words)))
     sources = installed()[1] if installed() else noted_digest(building.PROGRAM.crates())
     obey(order, words, sources)
 
