@@ -2,6 +2,7 @@
 import collections
 import concurrent.futures
 import ctypes
+import gc
 import itertools
 import multiprocessing
 import os
@@ -21,7 +22,8 @@ class Ended(Exception):
 
 def begin(work):
     """Begins as one of the processes. It leaves it to the process above to say that it is ended, and ends with it, also where that is
-    killed."""
+    killed. What it has from there it doesn't look through for what is let go of."""
+    gc.freeze()
     ctypes.CDLL(None).prctl(DEATH_SIGNAL, signal.SIGKILL)
     signal.signal(signal.SIGINT, signal.SIG_IGN)
     signal.signal(signal.SIGTERM, signal.SIG_DFL)

@@ -10,7 +10,7 @@ from drawing import read_step, replay
 from protocols import load
 
 MARK = re.compile(rb" [0-9a-f]{16}")
-FINAL = re.compile(rb" (commit|undo|rollback|back)\b")  # what a line has that isn't a step more which may be taken back
+FINAL = (b" commit", b" undo ", b" rollback ", b" back ")  # what a line has that isn't a step more which may be taken back
 
 
 class Row(collections.namedtuple("Row", "number changed entries is_marked stands waits uncommitted wrong recorder", defaults=("",))):
@@ -127,7 +127,9 @@ class Reader:
             if not room.run(lines):
                 return None
             stands = {role: room.expects(role.encode()) for role in self.roles}
-            free = uncommitted(self.roles, room.show(self.roles[0].encode())["history"]) if FINAL.search(b"\n".join(lines)) else len(lines)
+            text, free = b"\n".join(lines), len(lines)
+            if any(word in text for word in FINAL):
+                free = uncommitted(self.roles, room.show(self.roles[0].encode())["history"])
             return Row(number, changed, len(lines), is_marked, stands, waits(room, stands), free, wrong)
 
     def answers(self, script):
