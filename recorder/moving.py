@@ -17,6 +17,10 @@ from tables import READ, Changed, Tables
 PATIENCE = 5.0  # seconds until a PostgreSQL that doesn't answer is told to be away
 WRONG, DAMAGED = 2, 3  # statuses
 ROW = "select protocol from sessions where session = %s"
+# A row without lines is that of a move which broke off, or of a server that nothing was said to.
+ANY = """
+select session from sessions where session = %s and entries > 0
+union all (select session from entries where session = %s limit 1)"""
 # Nothing is removed where another holder took the session meanwhile.
 REMOVE = """
 with gone as (delete from sessions where session = %s and holder = %s returning session)
@@ -68,6 +72,12 @@ class Mover:
         with journal.held(path):
             return os.path.getsize(path) > 0
 
+    def take(self):
+        """The session's row, which is the mover's now, or None where a recorder has it, or it is of another protocol."""
+        protocols = {self.session: self.protocol()}
+        refused, others, gone = self.tables.stand(protocols)
+        return None if refused or others else self.tables.take(protocols, gone).get(self.session)
+
     # --- Into the tables ---
 
     def into(self):
@@ -106,13 +116,13 @@ class Mover:
             growth.add(data.split(b"\n")[:-1])
         except Unreadable:
             raise Damaged("its file doesn't begin with the mark, as one of version 0.1") from None
-        if self.tables.database.ask(ROW, (self.session,)):
-            raise Unread(f"{self.where} has session {self.session} already")
+        if self.tables.database.ask(ANY, (self.session, self.session)):
+            raise Unread(f"{self.where} has session {self.session} already, or lines of it")
         return growth
 
     def put(self, growth):
         """Puts the session into the tables. Whether these took it."""
-        taken = self.tables.take({self.session: self.protocol()}, []).get(self.session)
+        taken = self.take()
         if taken is None:
             return False
         is_kept = taken.size == 0 and self.tables.add({(self.session, taken.holder): growth})
@@ -146,12 +156,12 @@ class Mover:
 
     def fetch(self):
         """Takes the session, has its journal beside those of the folder, and then removes it from the tables."""
-        refused, others, gone = self.tables.stand({self.session: self.protocol()})
-        taken = None if refused or others else self.tables.take({self.session: self.protocol()}, gone).get(self.session)
+        taken = self.take()
         if taken is None:
             raise Unread(f"a recorder of {self.where} has session {self.session}")
         try:
             data = self.checked(self.tables.read(taken))[0]
+            self.check_coming(data)
             journal.note(self.folder, self.session, "begun")  # so that none is begun there until the file is
             self.write(f"{self.session}.coming", data)
         except (Changed, Damaged, Unread, OSError) as why:
@@ -163,6 +173,12 @@ class Mover:
         if self.tables.database.ask(LEFT, (self.session, taken.entries)):
             os.unlink(self.at(f"{self.session}.coming"))
             raise Unread(f"{self.where}: a recorder took session {self.session} meanwhile")
+
+    def check_coming(self, data):
+        """Sees to it that what an earlier move left is of this journal: not all that there is of a session whose rows it removed."""
+        path = self.at(f"{self.session}.coming")
+        if os.path.lexists(path) and not data.startswith(journal.bytes_of(path)):
+            raise Unread(f"{path} is of an earlier session than the one in {self.where}")
 
     def write(self, name, data):
         """Writes a file of the folder, and has the disk store it."""
