@@ -1,4 +1,5 @@
 """journal: what the file of a recorded session has, without a server; and how a session is begun anew."""
+import contextlib
 import fcntl
 import os
 import re
@@ -88,7 +89,7 @@ class Journal:
 
     def report(self):
         """The lines that say what the file has."""
-        yield f"session {self.session}: {len(self.script)} {'entry' if len(self.script) == 1 else 'entries'}"
+        yield counted(self.session, len(self.script))
         for role in sorted(self.newest):
             yield f"{role.decode()} {self.newest[role]}"
         if self.fault is not None:
@@ -115,33 +116,49 @@ def own(path, owner):
     return os.fdopen(number, "ab")
 
 
-def drop(folder, session):
-    """Notes that the session was removed, and then takes its journal away, which no server may have."""
-    path = os.path.join(folder, f"{session}.journal")
-    owner = os.stat(folder)
-    with own(path, owner) as kept:
+@contextlib.contextmanager
+def held(path):
+    """Holds the journal at this path, which no server may have, nor gets meanwhile."""
+    with own(path, os.stat(os.path.dirname(path) or ".")) as kept:
         try:
             fcntl.flock(kept, fcntl.LOCK_EX | fcntl.LOCK_NB)
         except OSError:
             raise Unread(f"{path}: a server has it") from None
         if not os.path.exists(path) or not os.path.samestat(os.fstat(kept.fileno()), os.lstat(path)):
             raise Unread(f"{path}: a server has just let go of it; try again")
-        with own(os.path.join(folder, "sessions"), owner) as noted:
-            # alone on its line, also where the one before it was torn
-            noted.write(f"\n{session} removed\n".encode())
-            noted.flush()
-            os.fsync(noted.fileno())
-        os.unlink(path)
+        yield
+
+
+def note(folder, session, what):
+    """Notes in the file `sessions` what became of the session."""
+    with own(os.path.join(folder, "sessions"), os.stat(folder)) as noted:
+        # alone on its line, also where the one before it was torn
+        noted.write(f"\n{session} {what}\n".encode())
+        noted.flush()
+        os.fsync(noted.fileno())
+
+
+def counted(session, count):
+    """How many entries a session has."""
+    return f"session {session}: {count} {'entry' if count == 1 else 'entries'}"
+
+
+def check(folder, session):
+    """Sees to it that these words name a session of a folder."""
+    if not SESSION.fullmatch(session):
+        raise Unread(f"{session}: no number of a session")
+    if not os.path.isfile(os.path.join(folder, "protocol")):
+        raise Unread(f"{folder}: no folder that records sessions")
 
 
 def remove(folder, session):
-    """Has the next server begin the session of that number anew. The exit status."""
+    """Has the next server begin the session of that number anew: that is noted, and then its journal taken away. The exit status."""
     try:
-        if not SESSION.fullmatch(session):
-            raise Unread(f"{session}: no number of a session")
-        if not os.path.isfile(os.path.join(folder, "protocol")):
-            raise Unread(f"{folder}: no folder that records sessions")
-        drop(folder, session)
+        check(folder, session)
+        path = os.path.join(folder, f"{session}.journal")
+        with held(path):
+            note(folder, session, "removed")
+            os.unlink(path)
     except (Unread, OSError) as error:
         output.tell(f"{error}\n".encode())
         return 2

@@ -78,6 +78,22 @@ def read(data, seal):
     return found
 
 
+def bodies(data, seal):
+    """The lines of a file without their seals, where this is the seal before the first, and the file is the mark and whole lines
+    with right seals; else None. It is for the many files of which nothing else is to be told."""
+    sha256, found = hashlib.sha256, []
+    *lines, rest = data.split(b"\n")
+    if rest or not lines or len(lines[0]) != 1 + 2 * SEAL:
+        return None
+    for line in lines:
+        body = line[:-1 - 2 * SEAL]
+        seal = sha256(seal + body).digest()[:SEAL]
+        if line[len(body):] != b" " + seal.hex().encode():
+            return None
+        found.append(body)
+    return found[1:]
+
+
 def unsealed(lines):
     """Lines of a file without their seals, which aren't looked at, and without the mark, after which lines have them."""
     is_sealed = False

@@ -69,7 +69,7 @@ def own_order(name, help_text, use, merging):
     told = [(call[len(name) + 1:], text) for call, text in entries(help_text) if call.split()[0] == name]
     options = []
     for word in re.findall("--[a-z]+", use):
-        texts = [text for call, text in told if call.startswith(word)] or re.findall(f"with {word} ([^.;]*)", told[0][1])
+        texts = [text for call, text in told if call.startswith(word)] or re.findall(f"with {word} ([^.;]*)", "; ".join(text for _, text in told))
         options.append(merging if word == merging.names[-1] else Option((word,), text=texts[0]))
     first = re.findall(r"(?<!\S)[a-z]+(?:\|[a-z]+)+(?!\S)", use.replace("plain|full", ""))
     return Order(name, told[0][1], options, first=tuple(first[0].split("|")) if first else ())

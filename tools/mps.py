@@ -16,12 +16,14 @@ mps explain FILE SCRIPT        of each line of the script that is refused or unr
 mps journal FILE [--script]    what the file of a recorded session has, FOLDER/K.journal: how many entries, each role's newest
                                number, and the first line that is wrong, if one is; with --script its lines as a script.
                                It asks no server; ends with 3 where a line is wrong, and else with 0
-mps sessions FOLDER [--html FILE|-] [--newest] [--watch]
+mps sessions FOLDER|--database DSN [--html FILE|-] [--newest] [--watch]
                                who is there, of the sessions that a folder records: of each how many entries it has, the time
                                since its file was changed last, what each role may do next, who waits for whom, how many
-                               surviving steps no commit makes final, and what is wrong; with --html as a page in that file, or
-                               on standard output where it is -; with --newest those first that were changed last; with --watch
-                               again every 2 seconds. It asks no server, takes no lock and changes nothing
+                               surviving steps no commit makes final, and what is wrong; with --database of those that
+                               recorders keep in that PostgreSQL, also which recorder has each, from a snapshot, for which a
+                               standby will do; with --html as a page in that file, or on standard output where it is -; with
+                               --newest those first that were changed last; with --watch again every 2 seconds. It asks no
+                               server, takes no lock and changes nothing
 mps recorder --port P --database DSN ..
                                keeps the journals of a server with --journal tcp:P in PostgreSQL, which another machine's server
                                goes on with; mps recorder --help has the options
@@ -36,6 +38,12 @@ mps .. --merging full          with check, run, same, serve, host, explain, jour
                                part in a choice may be told of the branch by labels of its own. docs/DESIGNING.md says how
 mps journal --remove FOLDER K  has the next server begin session K of FOLDER anew, and takes its file away, which no server
                                may have
+mps journal --into DSN FOLDER K [--lone]
+                               moves session K of FOLDER, which no server may have, into the tables of a recorder in that
+                               PostgreSQL, which must not have it, once its seals and commands are looked at; with --lone also
+                               where no synchronous standby is set
+mps journal --from DSN FOLDER K [--lone]
+                               moves session K back from there into FOLDER, which is made if need be
 mps prove                      builds the proved program and the proved library: each crate is proved, side by side on
                                all cores, which takes about half an hour; prints where the program stands
 mps which [--path]             tells which program runs, and of which sources; with --path prints only where it stands
@@ -64,6 +72,7 @@ explain ends so too, with 1 where a line of the script is refused, 2 where FILE 
 protocol is refused, and 4 where one can't be read. mps itself ends with 2 where its words are wrong, no program can be
 run, or what it writes to standard output can't be written, and with 141 where nobody reads that.
 """
+import functools
 import os
 import re
 import signal
@@ -79,20 +88,22 @@ import explain_script  # noqa: E402
 import journal  # noqa: E402
 import output  # noqa: E402
 import sessions  # noqa: E402
+import sessions_database  # noqa: E402
 from sources import HOME, built, digest, installed, noted_digest  # noqa: E402
 
 # the words that each order of mps itself may have after it
 USES = {"prove": "", "which": "[--path]", "install": "DIR", "explain": "[--merging plain|full] FILE [SCRIPT]", "library": "DIR",
-        "package": "DIR", "journal": "[--merging plain|full] FILE [--script] | --remove FOLDER K",
-        "sessions": "[--merging plain|full] FOLDER [--html FILE|-] [--newest] [--watch]",
+        "package": "DIR", "journal": "[--merging plain|full] FILE [--script] | --remove FOLDER K | --into|--from DSN FOLDER K [--lone]",
+        "sessions": "[--merging plain|full] FOLDER|--database DSN [--html FILE|-] [--newest] [--watch]",
         "api": "[--merging plain|full] python|rust FILE ROLE [SLOT ..]"}
 PROGRAMS = ("check", "run", "same", "serve", "host")  # the orders of the program
 DRAWING = ("picture", "story")  # the tools in examples
 RECORDER = os.path.join(HOME, "recorder", "recorder.py")
-PYTHON = "/usr/bin/python3"  # the system's, which has the packages that the recorder needs
+PYTHON = "/usr/bin/python3"  # the system's, which has the package that speaks to PostgreSQL
 BUILDING = ("prove", "library", "package")  # the orders that need the repository
 FULL = (["--merging", "full"], ["--merging=full"])  # the words of which each asks for full merging
 PLAIN = ([], ["--merging", "plain"], ["--merging=plain"])
+MOVING = (["--into"], ["--from"])  # the words of which each moves a session
 HELP = ("--help", "-h", "help")
 VERBOSE = ("-v", "--verbose")  # by which the program says more
 
@@ -136,6 +147,9 @@ def may_follow(order, words):
         return len(words) >= 3 and words[0] in api.LANGUAGES and not any(word.startswith("-") for word in words)
     if order == "journal" and words[:1] == ["--remove"]:
         return len(words) == 3 and not any(word.startswith("-") for word in words[1:])
+    if order == "journal" and words[:1] in MOVING:
+        words = words[1:-1] if words[-1] == "--lone" else words[1:]
+        return len(words) == 3 and not any(word.startswith("-") for word in words)
     if order == "explain" and words[1:] == ["-"] or order == "journal" and words[1:] == ["--script"]:
         words = words[:1]
     most = {"prove": 0, "explain": 2}.get(order, 1)
@@ -168,6 +182,33 @@ def library_folder():
     sources = digest(building.LIBRARY.crates())
     found = built(sources, building.LIBRARY.name)
     return found[1] if found else building.check(building.LIBRARY, sources)
+
+
+def who_is_there(option, words):
+    """The status of `sessions`, with the words that say how branches are merged. A database needs a python with packages."""
+    wanted = sessions.asked(words)
+    if wanted.database is not None:
+        with_packages()
+    return sessions.run(option in FULL, library_folder(), wanted)
+
+
+def with_packages():
+    """Goes on with a python that has packages."""
+    if sys.flags.no_site and os.path.exists(PYTHON):
+        os.execv(PYTHON, [PYTHON, "-I", *sys.argv])
+
+
+def moved(program, option, words):
+    """The status of a session's move between a folder and a database, with the words that say how branches are merged."""
+    with_packages()
+    try:
+        sessions_database.psycopg()
+    except journal.Unread as missing:
+        raise building.Stopped(str(missing)) from None
+    import moving  # of the recorder, whose folder is known by now
+    order, *words = words
+    answers = functools.partial(journal.answers, program, option)
+    return moving.run(order, [word for word in words if word != "--lone"], "--lone" in words, answers)
 
 
 def refused_file(program, words):
@@ -236,8 +277,7 @@ def main():
     if installed() and order in BUILDING:
         raise building.Stopped(f"mps {order} builds from the repository of Cizhmolat, and this mps was installed from a package")
     if order == "sessions":
-        option, words = merging_in(words)
-        sys.exit(sessions.run(option in FULL, library_folder(), sessions.asked(words)))
+        sys.exit(who_is_there(*merging_in(words)))
     sources = installed()[1] if installed() else noted_digest(building.PROGRAM.crates())
     obey(order, words, sources)
 
@@ -260,6 +300,8 @@ def obey(order, words, sources):
         sys.exit(explained(program_of(sources), option, *words))
     elif order == "journal" and words[0] == "--remove":
         sys.exit(journal.remove(*words[1:]))
+    elif order == "journal" and merging_in(words)[1][:1] in MOVING:
+        sys.exit(moved(program_of(sources), *merging_in(words)))
     elif order == "journal":
         option, words = merging_in(words)
         sys.exit(journal.tell(program_of(sources), option, words[0], words[1:] == ["--script"]))

@@ -1,24 +1,18 @@
 """sessions_page: the page that tells who is there. It has no script, and asks nothing of the net."""
-import os
-import shlex
 import string
 import time
 from html import escape
 
-from explain import printable
 from story_page import digest, part, styled
 
 
-def page(folder, head, rows, summary):
-    """The page of the rows of a folder, each with what stands in its columns."""
+def page(source, head, rows, summary):
+    """The page of the rows of a folder or a database, each with what stands in its columns."""
     style = styled(0) + part("sessions.css")
-    path, option = printable(os.fsencode(folder.path)), "--merging full " * folder.full
-    protocol = shlex.quote(os.path.join(path, "protocol"))
-    story = f"examples/story {option}{protocol} {shlex.quote(path)}/K.journal > K.html"
     return string.Template(part("sessions.html")).substitute(
         policy=f"default-src 'none'; style-src {digest(style)}; base-uri 'none'; form-action 'none'", style=style,
-        title=f"Sessions of {escape(path)}", summary=escape(summary), when=time.strftime("%Y-%m-%d %H:%M:%S UTC", time.gmtime()),
-        story=escape(story), head="".join(f'<th scope="col">{escape(it)}</th>' for it in head),
+        title=f"Sessions of {escape(source.name())}", summary=escape(summary), when=time.strftime("%Y-%m-%d %H:%M:%S UTC", time.gmtime()),
+        story=escape(source.story()), head="".join(f'<th scope="col">{escape(it)}</th>' for it in head),
         rows="\n".join(line(row, cells) for row, cells in rows))
 
 
