@@ -97,7 +97,16 @@ impl<
         let recorder = keeping.recorder();
         drop(keeping);
         let file = folder.open(self.rt, recorder, session)?;
-        folder.open_one(self.rt, session, file, note, unsynced)
+        match folder.open_one(self.rt, session, file, note, unsynced) {
+            // the recorder went away while it gave the journal
+            Err(ToolFault::JournalLost { session, .. }) if recorder.is_some() => {
+                Err(ToolFault::JournalFile {
+                    session,
+                    why: Some(io::Error::from(ErrorKind::ConnectionReset)),
+                })
+            }
+            opened => opened,
+        }
     }
 
     // The session, as its file leaves it, or a new one where nothing is recorded. In `barred` it is noted where a sync failed.
