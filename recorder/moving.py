@@ -25,7 +25,8 @@ union all (select session from entries where session = %s limit 1)"""
 REMOVE = """
 with gone as (delete from sessions where session = %s and holder = %s returning session)
 delete from entries using gone where entries.session = gone.session"""
-LEFT = "select entries from sessions where session = %s and entries >= %s"
+# Lines of an earlier holder. A session that was begun anew since they were removed has none.
+LEFT = "select session from entries where session = %s and holder < %s limit 1"
 
 
 class Damaged(Exception):
@@ -170,7 +171,7 @@ class Mover:
                 raise Damaged("the lines in the table aren't those of the session") from None
             raise
         self.tables.database.insist(REMOVE, (self.session, taken.holder))
-        if self.tables.database.ask(LEFT, (self.session, taken.entries)):
+        if self.tables.database.ask(LEFT, (self.session, taken.holder)):
             os.unlink(self.at(f"{self.session}.coming"))
             raise Unread(f"{self.where}: a recorder took session {self.session} meanwhile")
 
