@@ -14,6 +14,7 @@ PAUSE = 1.0  # seconds until the database is looked at where nobody asks
 MOST_SESSIONS = 200  # that are opened together
 MOST_LINES = 5_000  # that are added together, and those of one server more
 FAILED = 1  # the status where something happens that nobody foresaw
+UNKNOWN = 0  # in place of a holder
 ELSEWHERE, LOST = b"elsewhere\n", b"lost\n"
 
 
@@ -114,9 +115,9 @@ class Keeper(threading.Thread):
         try:
             self.tables.look()
             self.take(wanted)
-        except Away:  # it isn't known which of them were taken
+        except Away:  # it isn't known which of them were taken, and by which holder
             for session, server in wanted.items():
-                self.held[session] = Held(server, Taken(session, 0, 0, 0, None), is_lost=True)
+                self.held[session] = Held(server, Taken(session, UNKNOWN, 0, 0, None), is_lost=True)
                 self.answer(server, ELSEWHERE, True)
 
     def take(self, wanted):
@@ -179,8 +180,11 @@ class Keeper(threading.Thread):
 
     def leave(self, servers):
         """Lets go of the sessions of servers whose connections have ended."""
-        left = [server.session for server in servers
-                if (held := self.held.get(server.session)) is not None and held.server is server]
+        left = {server.session: held.holder for server in servers
+                if (held := self.held.get(server.session)) is not None and held.server is server}
+        unknown = {session: self.held[session].server.protocol for session, holder in left.items() if holder == UNKNOWN}
+        if unknown:
+            left.update(self.tables.retake(unknown))
         if left:
             self.tables.leave(left)
         for session in left:

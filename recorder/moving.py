@@ -127,7 +127,7 @@ class Mover:
         if taken is None:
             return False
         is_kept = taken.size == 0 and self.tables.add({(self.session, taken.holder): growth})
-        self.tables.leave([self.session])
+        self.tables.leave({self.session: taken.holder})
         return bool(is_kept)
 
     # --- Into the folder ---
@@ -166,7 +166,7 @@ class Mover:
             journal.note(self.folder, self.session, "begun")  # so that none is begun there until the file is
             self.write(f"{self.session}.coming", data)
         except (Changed, Damaged, Unread, OSError) as why:
-            self.tables.leave([self.session])
+            self.tables.leave({self.session: taken.holder})
             if isinstance(why, Changed):
                 raise Damaged("the lines in the table aren't those of the session") from None
             raise

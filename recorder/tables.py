@@ -83,10 +83,14 @@ select session from moved"""
 ADD = """
 execute add(%s::numeric[], %s::bigint[], %s::bigint[], %s::bigint[], %s::bigint[], %s::bigint[], %s::text[],
     %s::numeric[], %s::bigint[], %s::text[], %s::numeric[], %s::text[], %s::text[])"""
-# A session without an entry leaves no row.
+# A session without an entry leaves no row. One that has a new holder isn't let go of, though it may be the same recorder's.
 LEAVE = """
-with removed as (delete from sessions where session = any(%s::numeric[]) and recorder = %s and entries = 0)
-update sessions set recorder = null where session = any(%s::numeric[]) and recorder = %s and entries > 0"""
+with given as (
+    select * from unnest(%s::numeric[], %s::bigint[]) as g (session, holder)
+), removed as (
+    delete from sessions s using given g where s.session = g.session and s.holder = g.holder and s.entries = 0
+)
+update sessions s set recorder = null from given g where s.session = g.session and s.holder = g.holder and s.entries > 0"""
 
 
 class Taken(NamedTuple):
@@ -108,7 +112,7 @@ def columns(rows, count):
 
 
 class Tables:
-    """The tables in the database. Where PostgreSQL doesn't answer `add` and `leave` wait; the others raise Away."""
+    """The tables in the database. Where PostgreSQL doesn't answer `add`, `leave` and `retake` wait; the others raise Away."""
     begin = (MAKE, PREPARE)
 
     def __init__(self, database):
@@ -143,9 +147,19 @@ class Tables:
     def take(self, protocols, gone):
         """Takes these sessions, each with its protocol: those of that protocol that no recorder has, or one of those that are
         gone."""
-        sessions = sorted(protocols)  # so that two recorders don't wait for each other
-        rows = self.database.ask(TAKE, (self.recorder, sessions, [protocols[it] for it in sessions], list(gone)))
+        rows = self.database.ask(TAKE, self.taking(protocols, gone))
         return {int(row[0]): Taken(int(row[0]), *row[1:]) for row in rows}
+
+    def taking(self, protocols, gone):
+        """The words with which these sessions are taken."""
+        sessions = sorted(protocols)  # so that two recorders don't wait for each other
+        return self.recorder, sessions, [protocols[it] for it in sessions], list(gone)
+
+    def retake(self, protocols):
+        """Takes these sessions where no other recorder has them, though it isn't known whether they were taken before, by a
+        statement that may still be under way: this one is behind it. The holder of each."""
+        rows = self.database.insist(TAKE, self.taking(protocols, {self.recorder}))
+        return {int(session): holder for session, holder, *_ in rows}
 
     def read(self, taken):
         """The journal of a session that was just taken. What was read before it was taken might not be with the standby, and
@@ -167,6 +181,6 @@ class Tables:
         found = self.database.insist(ADD, columns(rows, 7) + columns(lines, 6))
         return {int(session) for session, in found}
 
-    def leave(self, sessions):
-        """Has other recorders take these sessions."""
-        self.database.insist(LEAVE, 2 * (sorted(sessions), self.recorder))
+    def leave(self, holders):
+        """Has other recorders take these sessions, each with its holder, where it is that one's still."""
+        self.database.insist(LEAVE, columns(sorted(holders.items()), 2))
