@@ -60,17 +60,18 @@ READ = """
 select coalesce(string_agg(concat_ws(' ', role, number, command, seal) || E'\\n', '' order by entry), ''), count(*),
     coalesce(min(entry), 1), coalesce(max(entry), 0)
 from entries where session = %s"""
-# What was added is added no second time where the statement is given again.
+# What was added is added no second time where the statement is given again. The recorder is looked at too, since holders come
+# again where a dump was restored, or a primary lost the end of what it wrote.
 PREPARE = """
 prepare add (numeric[], bigint[], bigint[], bigint[], bigint[], bigint[], text[],
-    numeric[], bigint[], text[], numeric[], text[], text[]) as
+    numeric[], bigint[], text[], numeric[], text[], text[], bigint) as
 with asked as (
     select * from unnest($1, $2, $3, $4, $5, $6, $7) as a (session, holder, before, after, bytes_before, bytes_after, mark)
 ), moved as (
     update sessions s set entries = a.after, bytes = a.bytes_after, mark = a.mark,
         changed = case when s.entries = a.after then s.changed else now() end
     from asked a
-    where s.session = a.session and s.holder = a.holder
+    where s.session = a.session and s.holder = a.holder and s.recorder = $14
         and (s.entries, s.bytes) in ((a.before, a.bytes_before), (a.after, a.bytes_after))
     returning s.session, s.holder
 ), added as (
@@ -82,7 +83,7 @@ with asked as (
 select session from moved"""
 ADD = """
 execute add(%s::numeric[], %s::bigint[], %s::bigint[], %s::bigint[], %s::bigint[], %s::bigint[], %s::text[],
-    %s::numeric[], %s::bigint[], %s::text[], %s::numeric[], %s::text[], %s::text[])"""
+    %s::numeric[], %s::bigint[], %s::text[], %s::numeric[], %s::text[], %s::text[], %s)"""
 # A session without an entry leaves no row. One that has a new holder isn't let go of, though it may be the same recorder's.
 LEAVE = """
 with given as (
@@ -178,7 +179,7 @@ class Tables:
             rows.append((session, holder, entries, growth.entries, size, growth.size, growth.mark))
             for place, entry in enumerate(growth.added, entries + 1):
                 lines.append((session, place, *entry))
-        found = self.database.insist(ADD, columns(rows, 7) + columns(lines, 6))
+        found = self.database.insist(ADD, [*columns(rows, 7), *columns(lines, 6), self.recorder])
         return {int(session) for session, in found}
 
     def leave(self, holders):
