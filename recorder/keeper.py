@@ -73,6 +73,7 @@ class Keeper(threading.Thread):
         self.desk, self.database, self.answer = desk, database, answer
         self.tables = Tables(database)
         self.held = {}  # sessions
+        self.seen = 0  # the connection to PostgreSQL after which it was looked at which of them others have
 
     def run(self):
         """Ends the process where it fails: what waits for it would wait for ever."""
@@ -98,9 +99,21 @@ class Keeper(threading.Thread):
                 looked = time.monotonic()
 
     def look(self):
-        """Looks whether PostgreSQL is there."""
+        """Looks whether PostgreSQL is there. After it connected anew it is seen to whether others took sessions meanwhile."""
         with contextlib.suppress(Away):
             self.tables.look()
+            if self.seen != self.database.times:
+                self.find_overtaken()
+
+    def find_overtaken(self):
+        """Tells servers whose sessions others took. It is done again until others have had the time to take theirs: one of these
+        may have held this recorder for gone just before it had its lock again."""
+        times, is_last = self.database.times, self.database.is_calm()
+        holders = {session: held.holder for session, held in self.held.items() if not held.is_lost}
+        for session in sorted(self.tables.overtaken(holders)) if holders else ():
+            self.lose(self.held[session], f"lost by holder {holders[session]}")
+        if is_last:
+            self.seen = times
 
     # --- Sessions that are opened ---
 

@@ -84,6 +84,10 @@ select session from moved"""
 ADD = """
 execute add(%s::numeric[], %s::bigint[], %s::bigint[], %s::bigint[], %s::bigint[], %s::bigint[], %s::text[],
     %s::numeric[], %s::bigint[], %s::text[], %s::numeric[], %s::text[], %s::text[], %s)"""
+# Sessions to which nothing more is added for that holder.
+OVERTAKEN = """
+select session from unnest(%s::numeric[], %s::bigint[]) as h (session, holder)
+where not exists (select from sessions s where s.session = h.session and s.holder = h.holder and s.recorder = %s)"""
 # A session without an entry leaves no row. One that has a new holder isn't let go of, though it may be the same recorder's.
 LEAVE = """
 with given as (
@@ -181,6 +185,11 @@ class Tables:
                 lines.append((session, place, *entry))
         found = self.database.insist(ADD, [*columns(rows, 7), *columns(lines, 6), self.recorder])
         return {int(session) for session, in found}
+
+    def overtaken(self, holders):
+        """Of these sessions, each with its holder, those that another has by now, or nobody."""
+        rows = self.database.ask(OVERTAKEN, [*columns(sorted(holders.items()), 2), self.recorder])
+        return {int(session) for session, in rows}
 
     def leave(self, holders):
         """Has other recorders take these sessions, each with its holder, where it is that one's still."""
