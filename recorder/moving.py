@@ -122,13 +122,17 @@ class Mover:
         return growth
 
     def put(self, growth):
-        """Puts the session into the tables. Whether these took it."""
-        taken = self.take()
-        if taken is None:
-            return False
-        is_kept = taken.size == 0 and self.tables.add({(self.session, taken.holder): growth})
-        self.tables.leave({self.session: taken.holder})
-        return bool(is_kept)
+        """Puts the session into the tables. Whether these took it. A row with the mark alone, as a recorder leaves that was killed,
+        goes when it is let go of; then a new one is made."""
+        for _ in range(2):
+            taken = self.take()
+            if taken is None:
+                return False
+            is_kept = taken.size == 0 and self.tables.add({(self.session, taken.holder): growth})
+            self.tables.leave({self.session: taken.holder})
+            if is_kept:
+                return True
+        return False
 
     # --- Into the folder ---
 
