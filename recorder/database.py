@@ -6,7 +6,9 @@ What PostgreSQL says was committed is with its standby too, unless
   of the database;
 - no standby is set, or none was for a moment: then it says nothing. So after each commit it is looked at whether one is set,
   and whether the settings were read anew meanwhile. A process of PostgreSQL does so before its next statement, and is told to
-  before those who wait are let go of.
+  before those who wait are let go of;
+- a standby was set just now, or PostgreSQL was just started: then it says nothing either, until another of its processes has
+  read the settings. So that one is given a second.
 
 Then the statement is given again. What it left before is visible by then, though the standby may not have it yet; but a commit
 waits until the standby has all that was written before it.
@@ -37,7 +39,7 @@ set tcp_user_timeout = '5s';
 set client_connection_check_interval = '5s'"""
 LOOK = """
 select pg_is_in_recovery(), current_setting('synchronous_standby_names') <> '' and current_setting('max_wal_senders')::int > 0,
-    pg_conf_load_time()"""
+    clock_timestamp() - greatest(pg_conf_load_time(), pg_postmaster_start_time()) between '0' and '1 s', pg_conf_load_time()"""
 CONNECTING = 2  # seconds that a connection may take to be made
 GRACE = 3  # seconds in which those whose connection broke take their locks again, before others may
 LEAST, MOST = 0.05, 1  # seconds until a statement is given again
@@ -120,15 +122,18 @@ class Database:
     # --- The connection ---
 
     def look(self, connection):
-        """Sees to it that the database may be written to. When it read its settings last."""
-        with connection.cursor() as cursor:
-            cursor.execute(LOOK)
-            is_standby, has_standby, loaded = cursor.fetchone()
-        if is_standby:
-            raise Away("it is a standby")
-        if not has_standby and not self.is_lone:
-            raise Away("no synchronous standby is set (synchronous_standby_names)")
-        return loaded
+        """Sees to it that the database may be written to. When it read its settings last, a second ago or more."""
+        while True:
+            with connection.cursor() as cursor:
+                cursor.execute(LOOK)
+                is_standby, has_standby, is_new, loaded = cursor.fetchone()
+            if is_standby:
+                raise Away("it is a standby")
+            if not has_standby and not self.is_lone:
+                raise Away("no synchronous standby is set (synchronous_standby_names)")
+            if not is_new:
+                return loaded
+            time.sleep(LEAST)
 
     def connect(self):
         """Makes the connection to the first database of the list."""

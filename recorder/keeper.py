@@ -14,6 +14,7 @@ PAUSE = 1.0  # seconds until the database is looked at where nobody asks
 MOST_SESSIONS = 200  # that are opened together
 MOST_LINES = 5_000  # that are added together, and those of one server more
 FAILED = 1  # the status where something happens that nobody foresaw
+UNKNOWN = 0  # in place of a holder
 ELSEWHERE, LOST = b"elsewhere\n", b"lost\n"
 
 
@@ -72,6 +73,7 @@ class Keeper(threading.Thread):
         self.desk, self.database, self.answer = desk, database, answer
         self.tables = Tables(database)
         self.held = {}  # sessions
+        self.seen = 0  # the connection to PostgreSQL after which it was looked at which of them others have
 
     def run(self):
         """Ends the process where it fails: what waits for it would wait for ever."""
@@ -97,9 +99,21 @@ class Keeper(threading.Thread):
                 looked = time.monotonic()
 
     def look(self):
-        """Looks whether PostgreSQL is there."""
+        """Looks whether PostgreSQL is there. After it connected anew it is seen to whether others took sessions meanwhile."""
         with contextlib.suppress(Away):
             self.tables.look()
+            if self.seen != self.database.times:
+                self.find_overtaken()
+
+    def find_overtaken(self):
+        """Tells servers whose sessions others took. It is done again until others have had the time to take theirs: one of these
+        may have held this recorder for gone just before it had its lock again."""
+        times, is_last = self.database.times, self.database.is_calm()
+        holders = {session: held.holder for session, held in self.held.items() if not held.is_lost}
+        for session in sorted(self.tables.overtaken(holders)) if holders else ():
+            self.lose(self.held[session], f"lost by holder {holders[session]}")
+        if is_last:
+            self.seen = times
 
     # --- Sessions that are opened ---
 
@@ -114,9 +128,9 @@ class Keeper(threading.Thread):
         try:
             self.tables.look()
             self.take(wanted)
-        except Away:  # it isn't known which of them were taken
+        except Away:  # it isn't known which of them were taken, and by which holder
             for session, server in wanted.items():
-                self.held[session] = Held(server, Taken(session, 0, 0, 0, None), is_lost=True)
+                self.held[session] = Held(server, Taken(session, UNKNOWN, 0, 0, None), is_lost=True)
                 self.answer(server, ELSEWHERE, True)
 
     def take(self, wanted):
@@ -179,8 +193,11 @@ class Keeper(threading.Thread):
 
     def leave(self, servers):
         """Lets go of the sessions of servers whose connections have ended."""
-        left = [server.session for server in servers
-                if (held := self.held.get(server.session)) is not None and held.server is server]
+        left = {server.session: held.holder for server in servers
+                if (held := self.held.get(server.session)) is not None and held.server is server}
+        unknown = {session: self.held[session].server.protocol for session, holder in left.items() if holder == UNKNOWN}
+        if unknown:
+            left.update(self.tables.retake(unknown))
         if left:
             self.tables.leave(left)
         for session in left:

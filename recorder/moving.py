@@ -25,7 +25,8 @@ union all (select session from entries where session = %s limit 1)"""
 REMOVE = """
 with gone as (delete from sessions where session = %s and holder = %s returning session)
 delete from entries using gone where entries.session = gone.session"""
-LEFT = "select entries from sessions where session = %s and entries >= %s"
+# Lines of an earlier holder. A session that was begun anew since they were removed has none.
+LEFT = "select session from entries where session = %s and holder < %s limit 1"
 
 
 class Damaged(Exception):
@@ -121,13 +122,17 @@ class Mover:
         return growth
 
     def put(self, growth):
-        """Puts the session into the tables. Whether these took it."""
-        taken = self.take()
-        if taken is None:
-            return False
-        is_kept = taken.size == 0 and self.tables.add({(self.session, taken.holder): growth})
-        self.tables.leave([self.session])
-        return bool(is_kept)
+        """Puts the session into the tables. Whether these took it. A row with the mark alone, as a recorder leaves that was killed,
+        goes when it is let go of; then a new one is made."""
+        for _ in range(2):
+            taken = self.take()
+            if taken is None:
+                return False
+            is_kept = taken.size == 0 and self.tables.add({(self.session, taken.holder): growth})
+            self.tables.leave({self.session: taken.holder})
+            if is_kept:
+                return True
+        return False
 
     # --- Into the folder ---
 
@@ -165,12 +170,12 @@ class Mover:
             journal.note(self.folder, self.session, "begun")  # so that none is begun there until the file is
             self.write(f"{self.session}.coming", data)
         except (Changed, Damaged, Unread, OSError) as why:
-            self.tables.leave([self.session])
+            self.tables.leave({self.session: taken.holder})
             if isinstance(why, Changed):
                 raise Damaged("the lines in the table aren't those of the session") from None
             raise
         self.tables.database.insist(REMOVE, (self.session, taken.holder))
-        if self.tables.database.ask(LEFT, (self.session, taken.entries)):
+        if self.tables.database.ask(LEFT, (self.session, taken.holder)):
             os.unlink(self.at(f"{self.session}.coming"))
             raise Unread(f"{self.where}: a recorder took session {self.session} meanwhile")
 

@@ -4,6 +4,7 @@ import contextlib
 import os
 import selectors
 import socket
+import time
 
 from database import tell
 from keeper import ELSEWHERE, LOST
@@ -12,6 +13,7 @@ from lines import LONGEST_LINE, LONGEST_OPEN, Unreadable, read_open
 PIECE = 1 << 16  # bytes that are read at a time
 MOST_BYTES = 1 << 26  # that a server sends before it asks whether they are kept
 WAITING = 4096  # connections that may come at once
+PAUSE = 1.0  # seconds until connections are taken again where the system had no room for one
 READ, WRITE = selectors.EVENT_READ, selectors.EVENT_WRITE
 
 
@@ -70,13 +72,15 @@ class Servers:
         self.listener, self.desk, self.answers, self.is_there, self.most = listener, desk, answers, is_there, most
         self.count, self.opening = 0, set()
         self.selector = selectors.DefaultSelector()
-        self.selector.register(listener, READ)
         self.selector.register(answers.bell, READ)
-        self.is_listening = True
+        self.held = 0.0  # when connections were taken no more
+        self.listen()
 
     def run(self):
         while True:
-            for key, events in self.selector.select():
+            if not self.is_listening and self.count < self.most and time.monotonic() > self.held + PAUSE:
+                self.listen()
+            for key, events in self.selector.select(None if self.is_listening else PAUSE):
                 if key.fileobj is self.listener:
                     self.accept()
                 elif key.data is None:
@@ -88,6 +92,8 @@ class Servers:
         """Takes a connection. Where there are as many as there may be, others wait until one ends."""
         try:
             stream, _ = self.listener.accept()
+        except (BlockingIOError, ConnectionAbortedError):  # who came is gone
+            return None
         except OSError as fault:
             return self.hold(fault.strerror)
         stream.setblocking(False)
@@ -97,10 +103,15 @@ class Servers:
         return self.hold(f"{self.count} are there (ulimit -n)") if self.count >= self.most else None
 
     def hold(self, why):
-        """Takes no connections until one ends."""
+        """Takes no connections until one ends, or, where there may be more, for a moment."""
         tell(f"no more connections are taken: {why}")
         self.selector.unregister(self.listener)
-        self.is_listening = False
+        self.is_listening, self.held = False, time.monotonic()
+
+    def listen(self):
+        """Takes connections from now on."""
+        self.selector.register(self.listener, READ)
+        self.is_listening = True
 
     def serve(self, server, events):
         if events & WRITE and not server.is_closed:
@@ -198,5 +209,4 @@ class Servers:
         if server.session is not None:
             self.desk.put(self.desk.gone, server)
         if not self.is_listening:
-            self.selector.register(self.listener, READ)
-            self.is_listening = True
+            self.listen()

@@ -60,17 +60,18 @@ READ = """
 select coalesce(string_agg(concat_ws(' ', role, number, command, seal) || E'\\n', '' order by entry), ''), count(*),
     coalesce(min(entry), 1), coalesce(max(entry), 0)
 from entries where session = %s"""
-# What was added is added no second time where the statement is given again.
+# What was added is added no second time where the statement is given again. The recorder is looked at too, since holders come
+# again where a dump was restored, or a primary lost the end of what it wrote.
 PREPARE = """
 prepare add (numeric[], bigint[], bigint[], bigint[], bigint[], bigint[], text[],
-    numeric[], bigint[], text[], numeric[], text[], text[]) as
+    numeric[], bigint[], text[], numeric[], text[], text[], bigint) as
 with asked as (
     select * from unnest($1, $2, $3, $4, $5, $6, $7) as a (session, holder, before, after, bytes_before, bytes_after, mark)
 ), moved as (
     update sessions s set entries = a.after, bytes = a.bytes_after, mark = a.mark,
         changed = case when s.entries = a.after then s.changed else now() end
     from asked a
-    where s.session = a.session and s.holder = a.holder
+    where s.session = a.session and s.holder = a.holder and s.recorder = $14
         and (s.entries, s.bytes) in ((a.before, a.bytes_before), (a.after, a.bytes_after))
     returning s.session, s.holder
 ), added as (
@@ -82,11 +83,19 @@ with asked as (
 select session from moved"""
 ADD = """
 execute add(%s::numeric[], %s::bigint[], %s::bigint[], %s::bigint[], %s::bigint[], %s::bigint[], %s::text[],
-    %s::numeric[], %s::bigint[], %s::text[], %s::numeric[], %s::text[], %s::text[])"""
-# A session without an entry leaves no row.
+    %s::numeric[], %s::bigint[], %s::text[], %s::numeric[], %s::text[], %s::text[], %s)"""
+# Sessions to which nothing more is added for that holder.
+OVERTAKEN = """
+select session from unnest(%s::numeric[], %s::bigint[]) as h (session, holder)
+where not exists (select from sessions s where s.session = h.session and s.holder = h.holder and s.recorder = %s)"""
+# A session without an entry leaves no row. One that has a new holder isn't let go of, though it may be the same recorder's.
 LEAVE = """
-with removed as (delete from sessions where session = any(%s::numeric[]) and recorder = %s and entries = 0)
-update sessions set recorder = null where session = any(%s::numeric[]) and recorder = %s and entries > 0"""
+with given as (
+    select * from unnest(%s::numeric[], %s::bigint[]) as g (session, holder)
+), removed as (
+    delete from sessions s using given g where s.session = g.session and s.holder = g.holder and s.entries = 0
+)
+update sessions s set recorder = null from given g where s.session = g.session and s.holder = g.holder and s.entries > 0"""
 
 
 class Taken(NamedTuple):
@@ -108,7 +117,7 @@ def columns(rows, count):
 
 
 class Tables:
-    """The tables in the database. Where PostgreSQL doesn't answer `add` and `leave` wait; the others raise Away."""
+    """The tables in the database. Where PostgreSQL doesn't answer `add`, `leave` and `retake` wait; the others raise Away."""
     begin = (MAKE, PREPARE)
 
     def __init__(self, database):
@@ -143,9 +152,19 @@ class Tables:
     def take(self, protocols, gone):
         """Takes these sessions, each with its protocol: those of that protocol that no recorder has, or one of those that are
         gone."""
-        sessions = sorted(protocols)  # so that two recorders don't wait for each other
-        rows = self.database.ask(TAKE, (self.recorder, sessions, [protocols[it] for it in sessions], list(gone)))
+        rows = self.database.ask(TAKE, self.taking(protocols, gone))
         return {int(row[0]): Taken(int(row[0]), *row[1:]) for row in rows}
+
+    def taking(self, protocols, gone):
+        """The words with which these sessions are taken."""
+        sessions = sorted(protocols)  # so that two recorders don't wait for each other
+        return self.recorder, sessions, [protocols[it] for it in sessions], list(gone)
+
+    def retake(self, protocols):
+        """Takes these sessions where no other recorder has them, though it isn't known whether they were taken before, by a
+        statement that may still be under way: this one is behind it. The holder of each."""
+        rows = self.database.insist(TAKE, self.taking(protocols, {self.recorder}))
+        return {int(session): holder for session, holder, *_ in rows}
 
     def read(self, taken):
         """The journal of a session that was just taken. What was read before it was taken might not be with the standby, and
@@ -164,9 +183,14 @@ class Tables:
             rows.append((session, holder, entries, growth.entries, size, growth.size, growth.mark))
             for place, entry in enumerate(growth.added, entries + 1):
                 lines.append((session, place, *entry))
-        found = self.database.insist(ADD, columns(rows, 7) + columns(lines, 6))
+        found = self.database.insist(ADD, [*columns(rows, 7), *columns(lines, 6), self.recorder])
         return {int(session) for session, in found}
 
-    def leave(self, sessions):
-        """Has other recorders take these sessions."""
-        self.database.insist(LEAVE, 2 * (sorted(sessions), self.recorder))
+    def overtaken(self, holders):
+        """Of these sessions, each with its holder, those that another has by now, or nobody."""
+        rows = self.database.ask(OVERTAKEN, [*columns(sorted(holders.items()), 2), self.recorder])
+        return {int(session) for session, in rows}
+
+    def leave(self, holders):
+        """Has other recorders take these sessions, each with its holder, where it is that one's still."""
+        self.database.insist(LEAVE, columns(sorted(holders.items()), 2))
