@@ -51,9 +51,11 @@ class Process(threading.Thread):
         self.signal(signal.SIGKILL)
 
     def end(self):
+        """Ends it, also where it is just being started again."""
         self.is_over = True
-        self.kill()
-        self.join()
+        while self.is_alive():
+            self.kill()
+            self.join(0.2)
 
 
 class Client(threading.Thread):
