@@ -13,7 +13,7 @@ import time
 import journals
 import program
 from recording import PROTOCOL, SECONDS
-from serving import Started, expect, free_port, reset
+from serving import Started, expect, reset
 
 ROLES = b"abcdefgh"
 CROWDED = b"roles a b c d e f g h ; " + b" . ".join(b"%c -> %c : int" % pair for pair in zip(ROLES, ROLES[1:])) + b" . end"
@@ -56,10 +56,13 @@ class End:
             self.stream.sendall(data)
 
     def line(self):
-        """The next line; nothing at the end."""
-        with contextlib.suppress(ConnectionError):
+        """The next line; nothing at the end, and no line where none comes in time."""
+        try:
             return self.file.readline()
-        return b""
+        except TimeoutError:
+            return b"silence"
+        except ConnectionError:
+            return b""
 
     def is_silent(self, seconds=0.3):
         """Whether nothing comes in so many seconds."""
@@ -74,8 +77,6 @@ class Stage:
         (room / "scripted.protocol").write_bytes(protocol)
         self.log = room / f"host.{time.monotonic_ns()}.log"
         self.listener = None if port else self.ends.enter_context(socket.create_server(("127.0.0.1", 0)))
-        if self.listener:
-            self.listener.settimeout(SECONDS)
         words = [program.find()[1], "host", str(room / "scripted.protocol"), "--port", "0", "--journal",
                  f"tcp:{port or self.listener.getsockname()[1]}"]
         log = self.ends.enter_context(open(self.log, "wb"))
@@ -100,6 +101,7 @@ class Stage:
 
     def asked(self, protocol=PROTOCOL):
         """The recorder's end of the next connection of the host, which asks for session 7."""
+        same("a connection of the host", select.select([self.listener], [], [], SECONDS)[0], [self.listener])
         link = self.end(self.listener.accept()[0])
         same("what a host says first", link.line(), b"open 7 %s\n" % protocol)
         return link
@@ -207,21 +209,23 @@ def what_is_refused(room):
 
 def nobody_listens(room):
     """Where the recorder isn't there a join is `refused elsewhere`, which is told."""
-    with Stage(room, port=free_port()) as stage:
-        same("a join without a recorder", stage.client().line(), b"refused elsewhere\n")
-        stage.tells("without a recorder", "refused journal 7\n")
+    with socket.socket() as taken:
+        taken.bind(("127.0.0.1", 0))  # so that it is nobody's, though nobody listens
+        with Stage(room, port=taken.getsockname()[1]) as stage:
+            same("a join without a recorder", stage.client().line(), b"refused elsewhere\n")
+            stage.tells("without a recorder", "refused journal 7\n")
 
 
 def play(stage, role, answers):
     """Joins for a role, sends a line, and leaves, again and again, for some time. The answers go into the set."""
     end = time.monotonic() + TOGETHER
     while time.monotonic() < end:
-        with contextlib.closing(End(socket.create_connection(("127.0.0.1", stage.port), SECONDS))) as client:
+        with contextlib.suppress(OSError), contextlib.closing(End(socket.create_connection(("127.0.0.1", stage.port), SECONDS))) as client:
             client.say(b"join 7 %c\nmark m\n" % role)
-            first = client.line()
-            answers.add((first, client.line()[:4]))
-        if first == b"refused taken\n":
-            time.sleep(PAUSE)
+            answer = client.line(), client.line()[:4]
+            answers.add(answer)
+            if answer[0] == b"refused taken\n":
+                time.sleep(PAUSE)
 
 
 def is_one_question(data):
