@@ -61,7 +61,7 @@ class End:
             return self.file.readline()
         except TimeoutError:
             return b"silence"
-        except ConnectionError:
+        except OSError:
             return b""
 
     def is_silent(self, seconds=0.3):
