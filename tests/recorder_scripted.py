@@ -72,12 +72,12 @@ class End:
 class Stage:
     """A host, what it told, and the port that is its recorder's, where the test takes its connections."""
 
-    def __init__(self, room, protocol=PROTOCOL, port=0):
+    def __init__(self, room, protocol=PROTOCOL, port=0, more=()):
         self.ends, self.heard = contextlib.ExitStack(), 0
         (room / "scripted.protocol").write_bytes(protocol)
         self.log = room / f"host.{time.monotonic_ns()}.log"
         self.listener = None if port else self.ends.enter_context(socket.create_server(("127.0.0.1", 0)))
-        words = [program.find()[1], "host", str(room / "scripted.protocol"), "--port", "0", "--journal",
+        words = [program.find()[1], *more, "host", str(room / "scripted.protocol"), "--port", "0", "--journal",
                  f"tcp:{port or self.listener.getsockname()[1]}"]
         log = self.ends.enter_context(open(self.log, "wb"))
         host = self.ends.enter_context(Started(words, 300, stdin=subprocess.DEVNULL, stdout=subprocess.PIPE, stderr=log))
@@ -190,12 +190,15 @@ def what_is_lost(room):
 
 
 def what_is_refused(room):
-    """A session that can't be had: what its client is answered, and whether it is told. A connection that ends within the journal
-    isn't taken for the journal's end, wherever it is cut."""
+    """A session that can't be had: what its client is answered, and what is told. A connection that ends within the journal isn't
+    taken for the journal's end, wherever it is cut: then the host would tell what is wrong with that journal."""
+    wrong = b"refused protocol\n", b"refused table\n", b"refused line\n", b"journal x\n", b"journal\n", b"kept 0\n"
     cut = [b"journal 100\n" + JOURNAL[:size] for size in (0, len(MARK), len(JOURNAL) - 5, len(JOURNAL))]
-    with Stage(room) as stage:
-        for answer, reply in ((b"elsewhere\n", b"elsewhere"), (b"refused protocol\n", b"journal"), (b"refused table\n", b"journal"),
-                              (b"journal x\n", b"journal"), (b"", b"elsewhere"), (None, b"elsewhere"), *((it, b"journal") for it in cut)):
+    with Stage(room, more=("-v",)) as stage:
+        for answer, reply, why in (
+                *((it, b"journal", "") for it in cut), *((it, b"journal", "invalid data\n") for it in wrong),
+                (b"", b"elsewhere", "failed to fill whole buffer\n"), (b"elsewhere\n", b"elsewhere", None),
+                (None, b"elsewhere", "Connection reset by peer (os error 104)\n")):
             client, link = stage.client(), stage.asked()
             if answer is None:
                 link.file.close()
@@ -204,7 +207,7 @@ def what_is_refused(room):
                 link.say(answer)
                 link.stream.shutdown(socket.SHUT_WR)
             same(f"a join with {answer}", client.line(), b"refused %s\n" % reply)
-            stage.tells(answer, "" if answer == b"elsewhere\n" else "refused journal 7\n")
+            stage.tells(answer, "" if why is None else f"refused journal 7\n{why}")
 
 
 def nobody_listens(room):
