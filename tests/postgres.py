@@ -6,6 +6,7 @@ import contextlib
 import glob
 import os
 import pathlib
+import pwd
 import shutil
 import signal
 import subprocess
@@ -28,14 +29,39 @@ DATABASE = "mps"  # and the name of its owner
 
 
 def folder():
-    """The folder of the newest PostgreSQL's programs, if one is there."""
+    """The folder of the newest PostgreSQL's programs, if one is there, and its user where that is needed."""
     found = glob.glob("/usr/lib/postgresql/*/bin")
-    return max(found, key=lambda path: int(path.split("/")[4])) if found else None
+    if not found or os.getuid() == 0 and USER not in (user.pw_name for user in pwd.getpwall()):
+        return None
+    return max(found, key=lambda path: int(path.split("/")[4]))
 
 
 def as_user():
     """The words before a program that runs as PostgreSQL does."""
     return ["setpriv", f"--reuid={USER}", f"--regid={USER}", "--clear-groups"] if os.getuid() == 0 else []
+
+
+def send(pid, number):
+    """Sends a signal to a process, if it is there."""
+    with contextlib.suppress(ProcessLookupError):
+        os.kill(pid, number)
+
+
+def state(pid):
+    """The letter of a process's state, as ps has it; nothing where there is no such process."""
+    try:
+        return pathlib.Path(f"/proc/{pid}/stat").read_text(encoding="latin-1").rpartition(")")[2].split()[0]
+    except (FileNotFoundError, ProcessLookupError):
+        return ""
+
+
+def wait(pids, states):
+    """Waits until each of these processes is in one of these states, or is no more."""
+    end = time.monotonic() + SECONDS
+    while not all(state(pid) in states for pid in pids):
+        if time.monotonic() > end:
+            raise TimeoutError(f"processes {pids} aren't in the states {states}")
+        time.sleep(0.01)
 
 
 class Postgres:
@@ -85,7 +111,7 @@ class Postgres:
 
     def ask(self, statement, words=None):
         """The rows of a statement, which waits for no standby."""
-        with contextlib.closing(psycopg2.connect(f"host={self.folder} user={USER} dbname={DATABASE} connect_timeout=2")) as made:
+        with contextlib.closing(psycopg2.connect(f"host={self.folder} user={USER} dbname={DATABASE} connect_timeout=30")) as made:
             made.autocommit = True
             with made.cursor() as cursor:
                 cursor.execute("set synchronous_commit = local")
@@ -97,17 +123,17 @@ class Postgres:
         self.ask(f"alter system set synchronous_standby_names = '{name}'")
         self.ask("select pg_reload_conf()")
 
-    def pids(self):
-        """Its processes, the first of which started the others."""
-        first = (self.data / "postmaster.pid").read_text(encoding="ascii").split()[0]
-        told = subprocess.run(["ps", "-o", "pid=", "--ppid", first], stdout=subprocess.PIPE, text=True, check=False).stdout
-        return [int(first), *map(int, told.split())]
-
     def signal(self, number):
-        """Sends a signal to all of its processes."""
-        for pid in self.pids():
-            with contextlib.suppress(ProcessLookupError):
-                os.kill(pid, number)
+        """Sends a signal to all of its processes. The one that starts the others is stopped first, so that there are no more. Which
+        these are."""
+        first = (self.data / "postmaster.pid").read_text(encoding="ascii").split()[0]
+        send(int(first), signal.SIGSTOP)
+        wait([first], ("T", "Z", ""))
+        told = subprocess.run(["ps", "-o", "pid=", "--ppid", first], stdout=subprocess.PIPE, text=True, check=False).stdout
+        pids = [int(first), *map(int, told.split())]
+        for pid in pids:
+            send(pid, number)
+        return pids
 
     def pause(self):
         self.signal(signal.SIGSTOP)
@@ -116,11 +142,8 @@ class Postgres:
         self.signal(signal.SIGCONT)
 
     def kill(self):
-        """Ends it all, as a lost machine would."""
-        pids = self.pids()
-        self.signal(signal.SIGKILL)
-        while any(os.path.exists(f"/proc/{pid}") for pid in pids):
-            time.sleep(0.02)
+        """Ends it all, as a lost machine would. It can't be started again before its processes are no more."""
+        wait(self.signal(signal.SIGKILL), ("",))
 
     def end(self):
         if (self.data / "postmaster.pid").exists():

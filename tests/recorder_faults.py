@@ -1,7 +1,8 @@
 """recorder_faults: two servers with a recorder each over two PostgreSQLs, whose clients go on while one part after the other fails.
 
-In the end the table has each answer that a client got, once and without gaps; the program gives the same answers to its lines; and
-the journal of each session, as the table has it, is accepted by `./mps journal`."""
+No client is told that its session's journal can't be used, or that its number is wrong. In the end the table has each answer that a
+client got, once and without gaps; the program gives the same answers to its lines; and the journal of each session, as the table has
+it, is accepted by `./mps journal`."""
 import contextlib
 import pathlib
 import random
@@ -22,6 +23,7 @@ ROLES = (("a", "b"), ("b", "a"))  # each with its peer
 ANSWERS = 10  # that clients get before the next fault
 STUCK = 60  # seconds in which they have to
 QUICK = 0.5  # seconds in which a recorder says whether it is ready
+NEVER = cizhmolat.BadJournal, cizhmolat.WrongNumber  # that a client meets: its session is whole, and has all that it was answered
 FAULTS = ("server", "recorder", "machine", "stop", "switch", "disconnect", "primary", "promote", "standby", "cancel")
 
 
@@ -51,9 +53,11 @@ class Process(threading.Thread):
         self.signal(signal.SIGKILL)
 
     def end(self):
+        """Ends it, also where it is just being started again."""
         self.is_over = True
-        self.kill()
-        self.join()
+        while self.is_alive():
+            self.kill()
+            self.join(0.2)
 
 
 class Client(threading.Thread):
@@ -73,7 +77,7 @@ class Client(threading.Thread):
                     while not self.game.is_over:
                         self.act(client)
             except cizhmolat.Error as error:
-                self.errors.append(repr(error))
+                self.errors.append(error)
                 time.sleep(0.2)
 
     def act(self, client):
@@ -136,6 +140,8 @@ class Game:
         for machine in self.machines:
             for process in machine:
                 process.end()
+        for client in self.clients:
+            faults.extend(f"{client.role} of session {client.session}: {error!r}" for error in client.errors if isinstance(error, NEVER))
 
     # --- Faults ---
 

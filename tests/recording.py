@@ -13,6 +13,7 @@ from serving import faults
 RECORDER = [program.MPS, "recorder"]
 PROTOCOL = b"roles a b ; rec X . a -> b : int . b -> a : int . X"
 SECONDS = 60  # that a busy machine is given
+ROOMS = "/tmp"  # where folders of PostgreSQLs are made: the path of a socket has 107 bytes at most
 
 
 def until(what, holds, seconds=SECONDS):

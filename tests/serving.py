@@ -26,9 +26,9 @@ def expect(what, found, wanted):
 class Started(subprocess.Popen):
     """A process in a group of its own, which is killed when its time is up or nobody needs it any more."""
 
-    def __init__(self, words, **pipes):
+    def __init__(self, words, seconds=SECONDS, **pipes):
         super().__init__(words, text=True, start_new_session=True, **pipes)
-        self.clock = threading.Timer(SECONDS, self.end)
+        self.clock = threading.Timer(seconds, self.end)
         self.clock.start()
 
     def end(self):
