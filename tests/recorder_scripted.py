@@ -191,12 +191,12 @@ def what_is_lost(room):
 
 def what_is_refused(room):
     """A session that can't be had: what its client is answered, and what is told. A connection that ends within the journal isn't
-    taken for the journal's end, wherever it is cut: then the host would tell what is wrong with that journal."""
+    taken for the journal's end, wherever it is cut: another server may have the session by then."""
     wrong = b"refused protocol\n", b"refused table\n", b"refused line\n", b"journal x\n", b"journal\n", b"kept 0\n"
     cut = [b"journal 100\n" + JOURNAL[:size] for size in (0, len(MARK), len(JOURNAL) - 5, len(JOURNAL))]
     with Stage(room, more=("-v",)) as stage:
         for answer, reply, why in (
-                *((it, b"journal", "") for it in cut), *((it, b"journal", "invalid data\n") for it in wrong),
+                *((it, b"elsewhere", "connection reset\n") for it in cut), *((it, b"journal", "invalid data\n") for it in wrong),
                 (b"", b"elsewhere", "failed to fill whole buffer\n"), (b"elsewhere\n", b"elsewhere", None),
                 (None, b"elsewhere", "Connection reset by peer (os error 104)\n")):
             client, link = stage.client(), stage.asked()
