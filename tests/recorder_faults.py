@@ -15,6 +15,7 @@ import cizhmolat
 import postgres
 import program
 from forwarder import Forwarder
+from progress import Progress
 from recording import PROTOCOL, ask
 from serving import expect, faults, free_port
 
@@ -269,12 +270,12 @@ def run(room, count, seed):
     with postgres.Pair(room) as pair:
         game = Game(room, pair, seed)
         try:
-            for _ in range(count):
-                if game.wait(ANSWERS) is None:
-                    break
-                fault = game.dice.choice(FAULTS)
-                game.fail(fault)
-                pauses.setdefault(fault, []).append(game.wait(1) or 0.0)
+            with Progress("faults", count) as progress:
+                while progress.done < count and game.wait(ANSWERS) is not None:
+                    fault = game.dice.choice(FAULTS)
+                    game.fail(fault)
+                    pauses.setdefault(fault, []).append(game.wait(1) or 0.0)
+                    progress.done += 1
             game.wait(ANSWERS)
         finally:
             game.end()

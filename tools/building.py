@@ -13,6 +13,7 @@ from typing import NamedTuple
 import checked_build
 import library
 from output import tell
+from progress import Progress
 from sources import HOME, OUT, built, digest, listed, needed, place
 
 
@@ -47,7 +48,7 @@ class Goal(NamedTuple):
 
 
 PROGRAM = Goal("mps_tool", "mps_tool", "mps_tool")
-LIBRARY = Goal("the library", library.CRATE, "library")
+LIBRARY = Goal("the library", library.CRATE, f"library.{library.NUMBER}")
 
 
 @contextlib.contextmanager
@@ -97,13 +98,14 @@ class Proof:
             ["rt", *words], cwd=os.path.join(HOME, "crates", name), stdin=subprocess.DEVNULL,
             stdout=self.log, stderr=subprocess.STDOUT, start_new_session=True)
 
-    def is_over(self):
-        """Whether it is proved; where it can't be, nothing is built."""
+    def is_over(self, progress):
+        """Whether it is proved; where it can't be, that is told and nothing built."""
         if self.process.poll() is None:
             return False
         if self.process.returncode != 0:
             self.log.seek(0)
-            tell(self.log.read())
+            with progress.away():
+                tell(self.log.read())
             raise Stopped(f"{self.name} isn't proved")
         return True
 
@@ -119,16 +121,19 @@ def prove_all(crates):
     waiting, running, proved = list(crates), [], set()
     tell(f"{len(crates)} crates are proved, which takes some minutes\n")
     try:
-        while waiting or running:
-            for name in list(waiting):
-                if len(running) < room and all(low in proved for low in crates[name] if low in crates):
-                    waiting.remove(name)
-                    running.append(Proof(name))
-            time.sleep(0.1)
-            for proof in [proof for proof in running if proof.is_over()]:
-                running.remove(proof)
-                proved.add(proof.name)
-                tell(f"[{len(proved)}/{len(crates)}] {proof.name} is proved\n")
+        with Progress("crates are proved", len(crates)) as progress:
+            while waiting or running:
+                for name in list(waiting):
+                    if len(running) < room and all(low in proved for low in crates[name] if low in crates):
+                        waiting.remove(name)
+                        running.append(Proof(name))
+                time.sleep(0.1)
+                for proof in [proof for proof in running if proof.is_over(progress)]:
+                    running.remove(proof)
+                    proved.add(proof.name)
+                    progress.done += 1
+                    with progress.away():
+                        tell(f"[{len(proved)}/{len(crates)}] {proof.name} is proved\n")
     finally:
         for proof in running:
             if proof.process.poll() is None:
@@ -173,7 +178,7 @@ def check(goal, sources):
         need_kit(goal)
         tell(f"building {goal.called}, which takes about a minute ..\n")
         try:
-            with told_why(goal):
+            with told_why(goal), Progress(f"building {goal.called}"):
                 goal.make_checked(there)
         except checked_build.NotAsExpected as reason:
             tell(f"mps: no checked build ({reason}), so what is proved is built\n")

@@ -22,11 +22,11 @@ def text_of(seal):
 
 def sealed(seal, lines):
     """The bytes of these lines, each with its seal and its LF, after the line with this seal."""
-    found = b""
+    found = []
     for line in lines:
         seal = next_seal(seal, line)
-        found += line + text_of(seal) + b"\n"
-    return found
+        found.append(line + text_of(seal) + b"\n")
+    return b"".join(found)
 
 
 def marked(seal, lines=()):
@@ -81,17 +81,17 @@ def read(data, seal):
 def bodies(data, seal):
     """The lines of a file without their seals, where this is the seal before the first, and the file is the mark and whole lines
     with right seals; else None. It is for the many files of which nothing else is to be told."""
-    sha256, found = hashlib.sha256, []
+    sha256, size, seals = hashlib.sha256, 1 + 2 * SEAL, b""
     *lines, rest = data.split(b"\n")
-    if rest or not lines or len(lines[0]) != 1 + 2 * SEAL:
+    if rest or not lines or len(lines[0]) != size:
         return None
-    for line in lines:
-        body = line[:-1 - 2 * SEAL]
+    found = [line[:-size] for line in lines]
+    for body in found:
         seal = sha256(seal + body).digest()[:SEAL]
-        if line[len(body):] != b" " + seal.hex().encode():
-            return None
-        found.append(body)
-    return found[1:]
+        seals += seal
+    # all seals are compared at once
+    is_right = b"".join([line[-size:] for line in lines]) == b" " + seals.hex(" ", SEAL).encode()
+    return found[1:] if is_right else None
 
 
 def unsealed(lines):

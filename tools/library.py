@@ -14,6 +14,8 @@ from sources import HOME
 
 CRATE = "mps_c"
 FILES = ("libcizhmolat.a", "libcizhmolat.so")
+NUMBER = 0  # of the calls, which is another one where programs that were linked with the shared library have to be linked anew
+SONAME = f"{FILES[1]}.{NUMBER}"  # by which these programs find it
 FOR_C = os.path.join(HOME, "bindings", "c")
 BESIDE = ("cizhmolat.h", "FindCizhmolat.cmake")  # of that folder, beside the library
 PACKAGE = "cizhmolat.pc"  # what pkg-config reads, made from the file with .in behind its name
@@ -68,7 +70,7 @@ def link(kit, code, folder):
         run(f"{tools}/ld.lld", "-r", "-o", f"{whole}.all", "--whole-archive", code, "--no-whole-archive", f"{kit}/c/liblibc_c.a", f"{kit}/c/libos_c.a")
         run("objcopy", f"--keep-global-symbols={names}", f"{whole}.all", whole)
         run(f"{tools}/llvm-ar", "rcs", archive, whole)
-        run(f"{tools}/ld.lld", "-shared", "-soname", FILES[1], "--version-script", versions, "--gc-sections", "--no-undefined",
+        run(f"{tools}/ld.lld", "-shared", "-soname", SONAME, "--version-script", versions, "--gc-sections", "--no-undefined",
             "-z", "now", "-z", "relro", "-z", "noexecstack", "-o", shared, whole, f"{kit}/toolchain/lib/libc.so.6")
 
 
@@ -89,6 +91,13 @@ def version():
         return re.search('(?m)^version = "(.*)"$', file.read())[1]
 
 
+def shared():
+    """How the shared library's file is called, by its version, and the links to it, each with its target: that for programs,
+    and that for linkers."""
+    name = f"{FILES[1]}.{version()}"
+    return name, {SONAME: name, FILES[1]: SONAME}
+
+
 def package(folder, library="${prefix}", header="${prefix}"):
     """What pkg-config reads of the library in that folder, or in these below it."""
     with open(os.path.join(FOR_C, f"{PACKAGE}.in"), encoding="utf-8") as file:
@@ -102,13 +111,26 @@ def put(made, folder):
     """Copies the library into a folder, which is made if need be, with its header and what CMake and pkg-config find it by, and says
     where they then stand."""
     os.makedirs(folder, exist_ok=True)
-    places = []
     with tempfile.TemporaryDirectory(prefix="mps-package-") as work:
         described = os.path.join(work, PACKAGE)
         with open(described, "w", encoding="utf-8") as file:
             file.write(package(folder))
-        for file in (*(os.path.join(made, name) for name in FILES), *(os.path.join(FOR_C, name) for name in BESIDE), described):
-            there = os.path.join(folder, os.path.basename(file))
-            checked_build.put(file, there)
-            places.append(there)
-    return places
+        name, links = shared()
+        files = dict(zip((FILES[0], name), (os.path.join(made, file) for file in FILES)))
+        files.update((os.path.basename(file), file) for file in (*(os.path.join(FOR_C, name) for name in BESIDE), described))
+        for name, file in files.items():
+            checked_build.put(file, os.path.join(folder, name))
+    for name, target in links.items():
+        link_to(target, os.path.join(folder, name))
+    return [os.path.join(folder, name) for name in (*files, *links)]
+
+
+def link_to(target, there):
+    """Makes a link to a file beside it, which comes to its place as that of a file would."""
+    beside = f"{there}.{os.getpid()}"
+    try:
+        os.symlink(target, beside)
+        os.replace(beside, there)
+    finally:
+        if os.path.lexists(beside):
+            os.remove(beside)

@@ -21,6 +21,7 @@ import completions
 import library
 import man_pages
 import manual
+from progress import Progress
 from sources import HOME, built
 
 ROOT = pathlib.Path(HOME)
@@ -28,13 +29,14 @@ FROM = ROOT / "packaging"
 NAME = "cizhmolat"
 MAINTAINER = "Cizhmolat maintainers <maintainers@users.noreply.cizhmolat.example>"
 SUMMARY = "monitor of sessions whose steps can be taken back"
-RUN = ("mps.py", "story", "picture")  # what is started of tools and examples
+RUN = ("mps.py", "draining.py", "story", "picture")  # what is started of tools and examples
 TOOLS = {"story": ROOT / "examples" / "story", "picture": ROOT / "examples" / "picture", "recorder": ROOT / "recorder" / "recorder.py"}
 PAGES = ("TOUR", "DESIGNING", "OPERATING", "EMBEDDING", "STATES", "FORMATS")  # of docs, for users
 MODULES = (*sorted((ROOT / "clients" / "python").glob("*.py")), ROOT / "bindings" / "python" / "cizhmolat_embed.py")
 CONFIGURED = ("etc/cizhmolat/relay.env", "etc/cizhmolat/relay.protocol")
 # what is built has code of these parts of the kit
-PORTS = ("bytes", "clap", "indexmap", "itoa", "memchr", "serde_json", "slab", "strsim", "thiserror", "unicode")
+PORTS = ("bytes", "clap", "http1", "httparse", "indexmap", "itoa", "memchr", "serde_json", "slab", "strsim", "thiserror",
+         "unicode")
 CONFIG = 'include("${CMAKE_CURRENT_LIST_DIR}/FindCizhmolat.cmake")\n'  # by which CMake finds the module where it is installed
 
 
@@ -102,8 +104,11 @@ def of_program(made, layout):
 
 def of_library(made, layout):
     """The library, with what compilers, pkg-config, CMake and Python find it by."""
-    for name in library.FILES:
-        yield f"{layout.library}/{name}", pathlib.Path(made.library, name).read_bytes()
+    name, links = library.shared()
+    for file, installed in zip(library.FILES, (library.FILES[0], name)):
+        yield f"{layout.library}/{installed}", pathlib.Path(made.library, file).read_bytes()
+    for link, target in links.items():
+        yield f"{layout.library}/{link}", target
     header, find = (pathlib.Path(library.FOR_C, name) for name in library.BESIDE)
     yield f"include/{header.name}", header.read_bytes()
     yield f"{layout.library}/cmake/Cizhmolat/{find.name}", find.read_bytes()
@@ -124,6 +129,8 @@ def of_pages(made):
     yield "share/fish/vendor_completions.d/mps.fish", completions.fish(made.orders).encode()
     for name in PAGES:
         yield f"share/doc/{NAME}/docs/{name}.md", text_of("docs", f"{name}.md").encode()
+    for file in sorted((ROOT / "examples" / "watching").iterdir()):
+        yield f"share/doc/{NAME}/examples/watching/{file.name}", file.read_bytes()
     yield f"share/doc/{NAME}/changelog.gz", zipped(changelog().encode())
     yield f"share/doc/{NAME}/copyright", copyright_text().encode()
     kit = pathlib.Path(checked_build.page_folder(), "rattle")
@@ -221,8 +228,9 @@ def control(made, files):
     sums = "".join(f"{hashlib.md5(content).hexdigest()}  {path}\n" for path, content in sorted(files.items())
                    if isinstance(content, bytes) and path not in CONFIGURED)
     settings = "".join(f"/{path}\n" for path in CONFIGURED)
+    shlibs = f"libcizhmolat {library.NUMBER} {NAME} (>= {made.version})\n"
     return {"control": text.encode(), "md5sums": sums.encode(), "conffiles": settings.encode(),
-            "triggers": b"activate-noawait ldconfig\n", "prerm": (FROM / "prerm").read_bytes()}
+            "triggers": b"activate-noawait ldconfig\n", "shlibs": shlibs.encode(), "prerm": (FROM / "prerm").read_bytes()}
 
 
 def debian(made):
@@ -259,12 +267,15 @@ def make(folder, program, sources, help_text, uses):
     if newest != version:
         raise building.Stopped(f"the program is of version {version}, and CHANGELOG.md's newest is {newest}")
     try:
-        with tempfile.TemporaryDirectory(prefix="mps-package-") as room:
+        with tempfile.TemporaryDirectory(prefix="mps-package-") as room, Progress("packages", 2) as progress:
             for name, words in zip(library.FILES, (["--strip-debug"], ["--strip-unneeded"])):
                 stripped(os.path.join(there, name), room, words)
             made = Made(stripped(program, room, []), built(sources)[0], room, library_kind, sources, version, date, help_text,
                         manual.orders(program, TOOLS, help_text, uses))
-            files = {f"{NAME}_{version}_amd64.deb": debian(made), f"{NAME}-{version}-x86_64.tar.gz": local(made)}
+            files = {}
+            for name, packed in ((f"{NAME}_{version}_amd64.deb", debian), (f"{NAME}-{version}-x86_64.tar.gz", local)):
+                files[name] = packed(made)
+                progress.done += 1
     except (library.NotMade, checked_build.NotAsExpected) as reason:
         raise building.Stopped(f"the packages can't be made: {reason}") from reason
     places = [f"{made.kind} program and {library_kind} library of version {version}"]

@@ -1,6 +1,7 @@
 """sessions: who is there, of the sessions that a folder records, or that recorders keep in PostgreSQL. It asks no server, takes no lock
 and changes nothing."""
 import collections
+import gc
 import os
 import shutil
 import sys
@@ -18,6 +19,7 @@ from sources import HOME
 
 PAUSE = 2.0  # seconds from one look to the next
 HEAD = ("session", "entries", "age", "stands", "waits", "uncommitted", "recorder", "wrong")
+AGES = ((86400, "d"), (3600, "h"), (60, "min"))  # how many seconds each unit of an age has
 RIGHT = ("session", "entries", "age", "uncommitted")  # what is flush right
 WITH_VALUE = ("--html", "--database")
 OPTIONS = (*WITH_VALUE, "--newest", "--watch")
@@ -47,21 +49,27 @@ def head(source):
     return HEAD if source.has_recorders else tuple(name for name in HEAD if name != "recorder")
 
 
-def cells(row, source):
-    """What stands in each column."""
-    stands = "; ".join(f"{role}: {it}" for role, it in row.stands.items())
-    counts = ("-", "-") if row.entries is None else (str(row.entries), str(row.uncommitted))
-    last = (row.recorder, row.wrong) if source.has_recorders else (row.wrong,)
-    return str(row.number), counts[0], age(row.changed), stands, ", ".join(waiting(row)), counts[1], *last
+def cells(rows, source):
+    """What stands in each column of each row. Of rows that share how they stand that is spelled once."""
+    spelled, now = {}, time.time()
+    for row in rows:
+        shared = id(row.stands), id(row.waits)
+        if shared not in spelled:
+            spelled[shared] = "; ".join(f"{role}: {it}" for role, it in row.stands.items()), ", ".join(waiting(row))
+        counts = ("-", "-") if row.entries is None else (str(row.entries), str(row.uncommitted))
+        last = (row.recorder, row.wrong) if source.has_recorders else (row.wrong,)
+        yield str(row.number), counts[0], age(row.changed, now), *spelled[shared], counts[1], *last
 
 
-def age(changed):
+def age(changed, now):
     """For how long a journal hasn't been changed."""
     if changed is None:
         return "-"
-    seconds = max(0, int(time.time() - changed))
-    unit, name = next((it for it in ((86400, "d"), (3600, "h"), (60, "min")) if seconds >= it[0]), (1, "s"))
-    return f"{seconds // unit} {name}"
+    seconds = max(0, int(now - changed))
+    for unit, name in AGES:
+        if seconds >= unit:
+            return f"{seconds // unit} {name}"
+    return f"{seconds} s"
 
 
 def waiting(row):
@@ -92,7 +100,7 @@ def summary(rows, source):
 def table(rows, source):
     """The lines of the table."""
     names = head(source)
-    lines = [names, *(cells(row, source) for row in rows)]
+    lines = [names, *cells(rows, source)]
     wide = [max(map(len, column)) for column in zip(*lines)]
     form = "  ".join(f"{{:{'>' if name in RIGHT else '<'}{far}}}" for name, far in zip(names, wide)).format
     for line in lines:
@@ -123,7 +131,7 @@ def show(rows, source, wanted):
     if wanted.newest:
         rows = sorted(rows, key=lambda row: -(row.changed or 0))
     if wanted.html is not None:
-        page = sessions_page.page(source, head(source), [(row, cells(row, source)) for row in rows], summary(rows, source))
+        page = sessions_page.page(source, head(source), [*zip(rows, cells(rows, source))], summary(rows, source))
         output.write(page) if wanted.html == "-" else put(page, wanted.html)
     elif wanted.watch and os.isatty(1):
         output.write(painted(rows, source))
@@ -136,6 +144,7 @@ def run(full, library, wanted):
     the protocol of a folder is refused."""
     os.environ["CIZHMOLAT_DIR"] = library
     sys.path[:0] = [os.path.join(HOME, "bindings", "python"), os.path.join(HOME, "clients", "python")]
+    gc.set_threshold(1_000_000)  # rows may be many, and none of them leads to itself
     try:
         in_folder = wanted.database is None
         source = sessions_folder.Folder(wanted.folder, full) if in_folder else sessions_database.Database(wanted.database, full)

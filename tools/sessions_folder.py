@@ -10,7 +10,7 @@ import journal
 import spread
 from explain import printable
 from journal import Unread
-from standing import Reader, unread
+from standing import Reader, Row, unread
 
 MOST, GREATEST = 67_108_864, 1 << 63  # bytes of a file that a server reads, and its greatest number of a session
 SETTLED = 10.0  # seconds after which a server surely has written the mark of a session that it noted as begun
@@ -24,15 +24,15 @@ class Folder:
     has_recorders = False
 
     def __init__(self, path, full):
-        self.path, self.full = path, full
+        self.path, self.full, self.inside = path, full, os.path.join(path, "")
         if not os.path.isfile(self.at("protocol")):
             raise Unread(f"{path}: no folder that records sessions")
         self.reader = Reader(journal.bytes_of(self.at("protocol")), full)
-        self.seen, self.rows = {}, {}
+        self.found = {}
 
     def at(self, name):
         """The path of a file."""
-        return os.path.join(self.path, name)
+        return self.inside + name
 
     def name(self):
         """What the folder is called on a page."""
@@ -47,13 +47,11 @@ class Folder:
 
     def look(self):
         """The rows, by their numbers. What has begun is noted after a session's file was made, and so is read first."""
-        begun, files = self.begun(), self.files()
-        changed = [number for number, seen in files.items() if self.seen.get(number) != seen]
-        self.rows = {number: row for number, row in self.rows.items() if number in files}
-        self.rows.update((row.number, row) for row in spread.over(self.row, changed) if row is not None)
-        self.seen = files
-        found = [marked(row, begun) for row in self.rows.values()]
-        return sorted(found + [unread(number, None, "has begun, but its file is gone") for number in self.gone(begun - {*files})])
+        begun, numbers = self.begun(), self.numbers()
+        self.found = {number: now or self.found[number] for number, now in zip(numbers, spread.over(self.now, numbers))}
+        found = [marked(Row(*row), begun) for _, row in self.found.values() if row]
+        gone = self.gone(begun.difference(numbers))
+        return sorted(found + [unread(number, None, "has begun, but its file is gone") for number in gone])
 
     def begun(self):
         """The sessions that have begun, as the file `sessions` notes."""
@@ -63,15 +61,10 @@ class Folder:
             (found.add if what == b"begun" else found.discard)(int(number))
         return found
 
-    def files(self):
-        """For each session that has a file what tells whether that was changed."""
-        found = {}
-        with os.scandir(self.path) as entries:
-            for entry in entries:
-                match = journal.NAME.fullmatch(entry.name)
-                if match and int(match[1]) <= GREATEST:
-                    found[int(match[1])] = version(entry)
-        return found
+    def numbers(self):
+        """The sessions that have a file."""
+        found = map(journal.NAME.fullmatch, os.listdir(self.path))
+        return [number for number in (int(match[1]) for match in found if match) if number <= GREATEST]
 
     def gone(self, numbers):
         """Those of these sessions whose file is gone, and wasn't removed meanwhile by `mps journal --remove`."""
@@ -80,30 +73,30 @@ class Folder:
 
     # --- One session ---
 
-    def row(self, number):
-        """The row of that session, or None where its file has gone. What seems wrong is looked at again where the file was being
-        changed: a server may have cut it there."""
-        path, row = self.at(f"{number}.journal"), unread(number, None, "")
-        for _ in range(3):
-            try:
-                seen = os.lstat(path)
-                row = unread(number, seen.st_mtime, unusable(seen))
-                row = row if row.wrong else self.reader.row(number, seen.st_mtime, contents(path))
-                if not row.wrong or version(os.lstat(path)) == version(seen):
-                    break
-            except FileNotFoundError:
+    def now(self, number):
+        """What tells whether that session's file was changed, and what its row has, or None where the file has gone. None for both
+        where it is as it was found before. What seems wrong is looked at again where the file was being changed: a server may have
+        cut it there."""
+        path, changed = self.at(f"{number}.journal"), None
+        try:
+            seen = os.lstat(path)
+            if version(seen) == self.found.get(number, (None,))[0]:
                 return None
-            except OSError as error:
-                return row._replace(wrong=f"unreadable: {error.strerror}")
-        return row
+            for _ in range(3):
+                changed, wrong = seen.st_mtime, unusable(seen)
+                row = unread(number, changed, wrong) if wrong else self.reader.row(number, changed, contents(path, seen.st_size))
+                if not row.wrong or version(again := os.lstat(path)) == version(seen):
+                    break
+                seen = again
+        except FileNotFoundError:
+            return None, None
+        except OSError as error:
+            return None, tuple(unread(number, changed, f"unreadable: {error.strerror}"))
+        return version(seen), tuple(row)
 
 
-def version(file):
-    """What tells whether a file was changed, or None where it has gone."""
-    try:
-        seen = file.stat(follow_symlinks=False) if isinstance(file, os.DirEntry) else file
-    except OSError:
-        return None
+def version(seen):
+    """What tells whether a file was changed."""
     return seen.st_ino, seen.st_size, seen.st_mtime_ns, seen.st_ctime_ns
 
 
@@ -114,10 +107,17 @@ def unusable(seen):
     return f"unreadable: over {MOST:,} bytes" if seen.st_size > MOST else ""
 
 
-def contents(path):
-    """What a plain file has. Nothing is waited for where it was exchanged for something else."""
-    with open(os.open(path, os.O_RDONLY | os.O_NOFOLLOW | os.O_NONBLOCK | os.O_CLOEXEC), "rb", buffering=0) as file:
-        return file.readall()
+def contents(path, size):
+    """The first so many bytes of a plain file, or less where it has less. Nothing is waited for where it was exchanged for
+    something else."""
+    file = os.open(path, os.O_RDONLY | os.O_NOFOLLOW | os.O_NONBLOCK | os.O_CLOEXEC)
+    try:
+        data = os.read(file, size)
+        while len(data) < size and (more := os.read(file, size - len(data))):
+            data += more
+        return data
+    finally:
+        os.close(file)
 
 
 def marked(row, begun):

@@ -1,6 +1,7 @@
 """standing: how a recorded session stands, by what its journal has. The library runs its lines."""
 import collections
 import ctypes
+import functools
 import json
 import re
 
@@ -10,6 +11,9 @@ from drawing import read_step, replay
 from protocols import load
 
 MARK = re.compile(rb" [0-9a-f]{16}")
+# What was sent, an int or a text. What is left out of these is spelled as nobody needs to spell it.
+SENT = re.compile(rb'( send [a-z0-9_]+ )(?:0|-?[1-9][0-9]{0,17}|("[ !#-\[\]-~]{0,256}"))$', re.MULTILINE)
+KEPT, LONGEST = 4000, 2000  # how many ways to stand are kept, of sessions with lines of so many bytes at most
 FINAL = (b" commit", b" undo ", b" rollback ", b" back ")  # what a line has that isn't a step more which may be taken back
 
 
@@ -98,13 +102,17 @@ class Room:
 
 
 class Reader:
-    """Reads sessions of a protocol, which has types by full or by plain merging."""
+    """Reads sessions of a protocol, which has types by full or by plain merging.
+
+    How a session stands doesn't depend on which ints and texts were sent. So the lines are run with others in their places, and
+    what comes of these is kept: most sessions of a protocol have the lines of some other one."""
 
     def __init__(self, protocol, full):
         self.protocol, self.full = protocol, full
         self.roles = [str(role) for role in load(protocol, full)]
         self.text = protocol[:-1] if protocol.endswith(b"\n") else protocol
         self.room = Room(self.text, full)
+        self.known = functools.lru_cache(KEPT)(self.standing)
 
     def row(self, number, changed, data):
         """The row of a session whose journal is that."""
@@ -123,14 +131,20 @@ class Reader:
 
     def row_of(self, lines, number, changed, is_marked, wrong):
         """The row of a session with these lines, or None where one of them isn't accepted."""
+        text = SENT.sub(least, b"\n".join([*lines, b""]))
+        found = self.known(text) if len(text) <= LONGEST else self.standing(text)
+        return found and Row(number, changed, len(lines), is_marked, *found, wrong)
+
+    def standing(self, text):
+        """How a session with the lines of this text stands: what a row says of that. None where one of them isn't accepted."""
+        lines = text.split(b"\n")[:-1]
         with self.room as room:
             if not room.run(lines):
                 return None
-            stands = {role: room.expects(role.encode()) for role in self.roles}
-            text, free = b"\n".join(lines), len(lines)
+            stands, free = {role: room.expects(role.encode()) for role in self.roles}, len(lines)
             if any(word in text for word in FINAL):
                 free = uncommitted(self.roles, room.show(self.roles[0].encode())["history"])
-            return Row(number, changed, len(lines), is_marked, stands, waits(room, stands), free, wrong)
+            return stands, waits(room, stands), free
 
     def answers(self, script):
         """The answers to these lines, each as it is asked for."""
@@ -138,6 +152,11 @@ class Reader:
             for line in script:
                 role, _, command = line.partition(b" ")
                 yield room.ask(role, command)
+
+
+def least(sent):
+    """What was sent, with the least of its sort in its place."""
+    return sent[1] + (b'""' if sent[2] else b"0")
 
 
 def waits(room, stands):

@@ -32,7 +32,7 @@ A room has one call at a time, by a lock, so its Roles may be used in threads, e
 wait for what other threads send, as at a server: NothingQueued is raised when nothing has come in `timeout` seconds.
 
 This file stands beside cizhmolat.py. The library is libcizhmolat.so, which `./mps library DIR` makes, of the environment's
-CIZHMOLAT_DIR, of the folder of this file, or where the system looks for libraries. `pip install` of this folder puts all three
+CIZHMOLAT_DIR, of the folder of this file, or libcizhmolat.so.0 where the system looks for libraries. `pip install` of this folder puts all three
 into one."""
 from __future__ import annotations
 
@@ -172,7 +172,7 @@ def library() -> ctypes.CDLL:
     """The library, with the types of its calls."""
     folders = [os.environ.get("CIZHMOLAT_DIR"), Path(__file__).resolve().parent]
     files = [Path(folder) / "libcizhmolat.so" for folder in folders if folder]
-    found = ctypes.CDLL(str(next((file for file in files if file.exists()), "libcizhmolat.so")))
+    found = ctypes.CDLL(str(next((file for file in files if file.exists()), "libcizhmolat.so.0")))
     size, text, place = ctypes.c_size_t, ctypes.c_char_p, ctypes.c_void_p
     calls: tuple[tuple[str, Any, list[Any]], ...] = (
         ("mps_open", ctypes.c_bool, [text, size, place, ctypes.POINTER(ctypes.c_uint32), ctypes.POINTER(ctypes.c_uint64)]),
