@@ -43,6 +43,21 @@ more() {
     echo -v
 }
 
+# Becomes the program; with --drain among the words of a server, the parent that has it drain when it is told to end.
+become() {
+    case $order in
+    serve | host)
+        for word; do
+            case $word in
+            --) break ;;
+            --drain) exec python3 -IS "$here/tools/draining.py" "$program" $(more "$@") "$@" ;;
+            esac
+        done
+        ;;
+    esac
+    exec "$program" $(more "$@") "$@"
+}
+
 order=
 for order; do
     case $order in -v | --verbose) ;; *) break ;; esac
@@ -52,13 +67,13 @@ case $order in
 *)
     program=$here/mps_tool
     if [ -f "$here/installed" ]; then
-        refuses "$@" || exec "$program" $(more "$@") "$@"
+        refuses "$@" || become "$@"
     elif [ -r "$note" ] && read -r sources <"$note" && { echo "$sources"; "$here/tools/look"; } | cmp -s - "$note"; then
         for kind in proved checked; do
             program=$here/out/$kind/$sources/mps_tool
             if [ -x "$program" ]; then
                 refuses "$@" && break
-                exec "$program" $(more "$@") "$@"
+                become "$@"
             fi
         done
     fi

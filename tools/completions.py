@@ -55,7 +55,9 @@ def bash(orders):
         for option in order.options:
             offered = "-d" if takes_folder(option) else f"-W '{' '.join(option.choices)}'"
             if option.value or option.choices:
-                values.append(f"    '{order.name} {option.names[-1]}') COMPREPLY=($(compgen {offered} -- \"$cur\")); return ;;\n")
+                needed = "[[ $cur == -* ]] || " if option.is_optional else ""
+                offered = f"{{ COMPREPLY=($(compgen {offered} -- \"$cur\")); return; }}"
+                values.append(f"    '{order.name} {option.names[-1]}') {needed}{offered} ;;\n")
         words = [*order.first, *(name for option in order.options for name in option.names)]
         # a space at the end: the first word is one of these, and no file
         options.append(f"    {order.name}) words='{' '.join(words)}{' ' if order.first else ''}' ;;\n")
@@ -77,7 +79,8 @@ def zsh(orders):
         for option in order.options:
             names = f"'({' '.join(option.names)})'{{{','.join(option.names)}}}" if len(option.names) > 1 else option.names[0]
             offered = f"({' '.join(option.choices)})" if option.choices else "_files -/" if takes_folder(option) else ""
-            value = f":{option.value or 'word'}:{offered}" if option.choices or option.value else ""
+            colons = "::" if option.is_optional else ":"
+            value = f"{colons}{option.value or 'word'}:{offered}" if option.choices or option.value else ""
             words.append(f"{names}'[{zsh_text(brief(option.text))}]{value}'")
         words += [f"'1:word:({' '.join(order.first)})'"] if order.first else []
         options.append(f"    {order.name}) _arguments {' '.join(words)} '*:file:_files' ;;\n")

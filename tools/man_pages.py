@@ -54,6 +54,7 @@ def options_of(order):
     """The options of an order, as a list."""
     for option in order.options:
         value = escaped("|".join(option.choices) or option.value)
+        value = f"[{value}]" if option.is_optional else value
         yield f".TP\n\\fB{escaped(', '.join(option.names))}\\fR \\fI{value}\\fR\n{plain(option.text)}"
 
 
@@ -91,7 +92,8 @@ def server_page(order, formats):
     arguments = "".join(f".TP\n.I {escaped(name)}\n{plain(text)}" for name, text in order.arguments)
     about = part(formats, f"`mps_tool {order.name} ", end).replace("`mps_tool ", "`mps ")
     options = [".SH OPTIONS\n", arguments, *options_of(order)]
-    return [order.text[0].lower() + order.text[1:], use, ".SH DESCRIPTION\n", *of_markdown(about), *options]
+    watched = of_markdown(formats[formats.index("## What a server tells"):])
+    return [order.text[0].lower() + order.text[1:], use, ".SH DESCRIPTION\n", *of_markdown(about), *options, *watched]
 
 
 def journal_page(order, help_text, formats):

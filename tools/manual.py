@@ -7,12 +7,13 @@ COLUMN = 31  # where the help of mps has what an order does
 
 
 class Option(NamedTuple):
-    """An option: its names, the short one first where there is one, its value's name or nothing, what may be its value, and what
-    it does."""
+    """An option: its names, the short one first where there is one, its value's name or nothing, what may be its value, what
+    it does, and whether it may be given without its value."""
     names: tuple
     value: str = ""
     choices: tuple = ()
     text: str = ""
+    is_optional: bool = False
 
 
 class Order(NamedTuple):
@@ -50,11 +51,14 @@ def said(words):
 
 def listed_options(text):
     """The options that a tool lists in its help."""
-    for found in re.finditer(r"^ *((?:-\w, )?--[a-z]+)(?: (<?[\w|]+>?))?  +(.*(?:\n {12,}\S.*)*)", text, flags=re.MULTILINE):
-        names, value, about = found.groups("")
+    value = r"<?[\w|]+>?"  # in brackets where it may be left out
+    pattern = rf"^ *((?:-\w, )?--[a-z]+)(?: ?(\[=?{value}\])| ({value}))?(?:  +| *\n {{12,}})(.*(?:\n {{12,}}\S.*)*)"
+    for found in re.finditer(pattern, text, flags=re.MULTILINE):
+        names, optional, value, about = found.groups("")
+        value = value or optional.strip("[=]")
         about, _, choices = re.sub(r"\s+", " ", about).partition(" [possible values: ")
         choices = choices[:-1].split(", ") if choices else value.split("|") if value.islower() and value[0] != "<" else ()
-        yield Option(tuple(names.split(", ")), value.strip("<>"), tuple(choices), about)
+        yield Option(tuple(names.split(", ")), value.strip("<>"), tuple(choices), about, bool(optional))
 
 
 def program_order(program, name):

@@ -36,6 +36,9 @@ mps picture                    draws the session that the answers on the standar
                                options
 mps .. --merging full          with check, run, same, serve, host, explain, journal, sessions and api: a role that takes no
                                part in a choice may be told of the branch by labels of its own. docs/DESIGNING.md says how
+mps serve|host .. --drain      told to end, by SIGTERM, SIGINT or SIGHUP, answers the line that each connection runs, and then
+                               ends; at a second signal, or seven seconds after the first, it is killed. Here the standard
+                               input, which the program itself waits for, doesn't count
 mps journal --remove FOLDER K  has the next server begin session K of FOLDER anew, and takes its file away, which no server
                                may have
 mps journal --into DSN FOLDER K [--lone]
@@ -97,7 +100,9 @@ USES = {"prove": "", "which": "[--path]", "install": "DIR", "explain": "[--mergi
         "sessions": "[--merging plain|full] FOLDER|--database DSN [--html FILE|-] [--newest] [--watch]",
         "api": "[--merging plain|full] python|rust FILE ROLE [SLOT ..]"}
 PROGRAMS = ("check", "run", "same", "serve", "host")  # the orders of the program
+SERVERS = ("serve", "host")  # those that may drain
 DRAWING = ("picture", "story")  # the tools in examples
+DRAINING = os.path.join(HOME, "tools", "draining.py")
 RECORDER = os.path.join(HOME, "recorder", "recorder.py")
 PYTHON = "/usr/bin/python3"  # the system's, which has the package that speaks to PostgreSQL
 BUILDING = ("prove", "library", "package")  # the orders that need the repository
@@ -246,13 +251,22 @@ def more(words):
     return ["-v"] if words[0] in PROGRAMS and not set(VERBOSE) & set(words) else []
 
 
+def drains(words):
+    """Whether these words are those of a server that drains when it is told to end."""
+    order, *words = past_verbose(words) or [""]
+    return order in SERVERS and "--drain" in words[:words.index("--") if "--" in words else None]
+
+
 def run(program, words):
-    """Becomes the program. Where a person reads what it says, it says more; and of a refused protocol they are told why."""
+    """Becomes the program, or its parent where it drains. Where a person reads what it says, it says more; and of a refused
+    protocol they are told why."""
     is_read = os.isatty(2)
     file = refused_file(program, words) if is_read else None
     if file is not None:
         sys.exit(run_explained(program, [*more(words), *words], file, output.tell, most=1))
-    os.execv(program, [program, *(more(words) if is_read else []), *words])
+    parent = [sys.executable, "-IS", DRAINING] if drains(words) else []
+    call = [*parent, program, *(more(words) if is_read else []), *words]
+    os.execv(call[0], call)
 
 
 def main():

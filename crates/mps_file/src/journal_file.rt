@@ -2,11 +2,13 @@
 ghost use Rattle.std.specs.Prelude.{◌≡◌, ◌≤◌, ⊤, IfOk, length};
 
 use crate::own_file::OwnFile;
+use libc::types::timespec;
 use mps_dev::OverWrite;
 use mps_keeper::{Disk, Keeper};
+use mps_watch::Watch;
 use std::alloc::Global;
 use std::fs::File;
-use std::io::Write;
+use std::io::{ErrorKind, Write};
 use std::sync::Arc;
 use std::sync::atomic::{AtomicBool, AtomicU64, Ordering};
 use std::{io, mem};
@@ -14,8 +16,24 @@ use std::{io, mem};
 // The system's number of the error that there is no such file.
 const NO_SUCH_FILE: i32 = 2;
 
+// How many nanoseconds a second has.
+const SECOND: u64 = 1_000_000_000;
+
 // The system's number of the newest error at a file, 0 for none.
 type NewestError = Arc<AtomicU64, Global>;
+
+// The nanoseconds since some start.
+fn nanoseconds() -> u64 {
+    let mut time = timespec {
+        tv_sec: 0,
+        tv_nsec: 0,
+    };
+    let _told = libc::clock_gettime(libc::CLOCK_MONOTONIC, &mut time);
+    let seconds = time.tv_sec.unsigned_abs();
+    seconds
+        .saturating_mul(SECOND)
+        .saturating_add(time.tv_nsec.unsigned_abs())
+}
 
 /// A session's journal, to be written to, by `OverWrite`, which counts failures. Once the file has no name any more a write
 /// fails, since nobody would find what it has: the next one, or, where it was said so, one of the next `LOOK`. Before the
@@ -32,6 +50,8 @@ pub struct JournalFile {
     left: u64,
     // whether the disk has stored its name
     named: AtomicBool,
+    // who counts what is written
+    watch: Option<Arc<Watch, Global>>,
 }
 
 /// At each how many'th write the names of a file are looked at that isn't stored at once: a look takes as long as a write.
@@ -68,6 +88,8 @@ pub struct JournalDisk {
     newest: NewestError,
     unsynced: Unsynced,
     about: About,
+    // who counts how long it takes, and which lines wait
+    watch: Option<Arc<Watch, Global>>,
 }
 
 /// Whether a sync failed: the system may show lines then that the disk doesn't have.
@@ -145,6 +167,7 @@ pub fn parted(
         every: 1,
         left: 0,
         named: AtomicBool::new(true),
+        watch: None,
     };
     Ok((
         written,
@@ -153,6 +176,7 @@ pub fn parted(
             newest,
             unsynced,
             about,
+            watch: None,
         },
     ))
 }
@@ -169,7 +193,15 @@ impl JournalFile {
             every: if stores { 1 } else { LOOK },
             left: 0,
             named: AtomicBool::new(stores),
+            watch: None,
         })
+    }
+
+    /// The same file, of which what is written is counted.
+    pub fn watched(self, watch: Arc<Watch, Global>) -> JournalFile {
+        let mut file = self;
+        file.watch = Some(watch);
+        file
     }
 
     /// The newest error at the file.
@@ -225,6 +257,9 @@ impl JournalFile {
         }
         let mut file = &*self.file;
         let count = file.write(buf)?;
+        if let Some(watch) = &self.watch {
+            watch.counts.journal_bytes.add(count as u64);
+        }
         if self.stores {
             held(&self.file, self.file.sync_data())?;
         }
@@ -244,6 +279,35 @@ impl Write for JournalFile {
 }
 
 impl JournalDisk {
+    /// The same disk, which counts how long it takes, and which lines wait for it.
+    pub fn watched(self, watch: Arc<Watch, Global>) -> JournalDisk {
+        let mut disk = self;
+        disk.watch = Some(watch);
+        disk
+    }
+
+    // Tells who watches that lines were lost. What a recorder doesn't keep, since another server has the session by now, or it
+    // went away itself, has no error of the system's.
+    fn tell_lost<R: Eprint>(&self, rt: &R, watch: &Watch, why: &io::Error) {
+        let session = self.about.session;
+        if why.raw_os_error() == Some(0) {
+            watch.lost(rt, session, &io::Error::from(ErrorKind::ConnectionAborted));
+        } else {
+            watch.lost(rt, session, why);
+        }
+    }
+
+    // Has the disk store what was written, and counts how long that took.
+    fn timed_sync(&self) -> io::Result<()> {
+        let Some(watch) = &self.watch else {
+            return self.file.sync_data();
+        };
+        let began = nanoseconds();
+        let stored = self.file.sync_data();
+        watch.counts.syncs.add(nanoseconds().saturating_sub(began));
+        stored
+    }
+
     /// The newest error at the file.
     pub fn newest_error(&self) -> io::Error {
         error_of(&self.newest)
@@ -268,7 +332,7 @@ impl Disk for JournalDisk {
         if !self.about.sync {
             return true;
         }
-        let stored = noted(&self.newest, self.file.sync_data());
+        let stored = noted(&self.newest, self.timed_sync());
         // a recorder never shows what it doesn't have
         if self.file.is_recorder() {
             return stored.is_ok();
@@ -286,6 +350,21 @@ impl Disk for JournalDisk {
         let why = self.newest_error();
         if self.about.verbose && why.raw_os_error() != Some(0) {
             let _told = eprintln!(rt; "{why}");
+        }
+        if let Some(watch) = &self.watch {
+            self.tell_lost(rt, watch, &why);
+        }
+    }
+
+    fn awaited(&self) {
+        if let Some(watch) = &self.watch {
+            watch.counts.awaited.add(1);
+        }
+    }
+
+    fn settled(&self) {
+        if let Some(watch) = &self.watch {
+            watch.counts.settled.add(1);
         }
     }
 }

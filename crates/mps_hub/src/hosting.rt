@@ -5,15 +5,14 @@ ghost use Rattle.mps_hub.specs.Private.Hosting.{IsHosted};
 ghost use Rattle.mps_line.specs.Codes.{code_of};
 
 use crate::attending::{Serving, refuse};
-use crate::door::{Arrival, accept_next};
+use crate::door::{Arrival, Street};
 use crate::first::asked_for;
 use crate::limits::Limits;
 use crate::lookout::Lookout;
-use crate::patience::{
-    RetryingWriter, TimedReader, bytes_there, first_bytes, linger, linger_until, moment_after,
-};
+use crate::overhearing::{HeardWriter, Watcher, ears};
+use crate::patience::{TimedReader, bytes_there, first_bytes, linger, linger_until, moment_after};
 use crate::register::{Entered, Left, Queue, Register};
-use crate::server::{ServeFault, serve_door};
+use crate::server::{ServeFault, is_ending, serve_door, tell_unserved};
 use crate::sessions::Hub;
 use crate::shares::Shares;
 use crate::waiting::Waits;
@@ -22,9 +21,10 @@ use mps_command::{Answer, Refusal};
 use mps_dev::{OverWrite, Sink};
 use mps_keeper::{Disk, Keeper, RestoredRoom, Unguarded};
 use mps_line::Reply;
+use mps_watch::{Ear, Ended, Side};
 use std::alloc::{AllocError, Global};
 use std::marker::PhantomData;
-use std::net::{TcpListener, TcpStream};
+use std::net::TcpStream;
 use std::sync::atomic::{AtomicBool, Ordering};
 use std::sync::{Arc, Wait};
 use std::thread;
@@ -36,9 +36,6 @@ const PAUSE: u64 = 100;
 
 // For how many milliseconds what a client still sends is read that is refused by a session's own thread.
 const BRIEF: u64 = 100;
-
-// For how many seconds the thread of a session that isn't opened any more sleeps at a time.
-const LONG: u64 = 3_600;
 
 /// The greatest number of a session.
 pub const GREATEST: u64 = 1 << 63;
@@ -103,6 +100,8 @@ pub struct Hosting<'f, R, S: Sink, D, H> {
     pub limits: Limits,
     /// By what answers wait, where they may.
     pub lookout: Option<Arc<Lookout, Global>>,
+    /// Who watches the connections.
+    pub watcher: Watcher,
     /// Of what records a session.
     pub of: PhantomData<Keeper<S, D>>,
 }
@@ -114,26 +113,50 @@ impl<
     D: Disk + Sync + Drop + 'static,
     H: Host<S, D> + Sync,
 > Hosting<'f, R, S, D, H> {
-    // The first line of the connection, and what came with it; `None` where none came. One that is too long needs no LF.
-    fn line_of(&self, stream: &TcpStream) -> Option<Vec<u8>> {
-        let mut timed = TimedReader::new(
-            self.rt,
-            stream,
-            self.limits.first_line(),
-            self.limits.idle,
-        )?;
-        first_bytes(self.alloc, &mut timed)
+    // The first line of the connection, and what came with it; or why none came. One that is too long needs no LF.
+    fn line_of(&self, stream: &TcpStream) -> Result<Vec<u8>, Ended> {
+        let (first, idle) = (self.limits.first_line(), self.limits.idle);
+        let Some(mut timed) = TimedReader::new(self.rt, stream, first, idle) else {
+            return Err(Ended::Fault);
+        };
+        match first_bytes(self.alloc, &mut timed) {
+            Some(line) => Ok(line),
+            None if is_ending(self.watcher.watch()) => Err(Ended::Ending),
+            None if timed.is_silent() => Err(Ended::Silent),
+            None => Err(Ended::Closed),
+        }
     }
 
     // The same, while the connection is among those that owe it. Not inlined, since the thread goes on as that of a session.
     #[inline(never)]
-    fn owed_line(&self, stream: &TcpStream) -> Option<Vec<u8>> {
+    fn owed_line(&self, stream: &TcpStream) -> Result<Vec<u8>, Ended> {
         let number = self.register.came(self.rt, stream);
+        if let Some(watch) = self.watcher.watch() {
+            watch.counts.here.add(1);
+        }
         let line = self.line_of(stream);
+        if let Some(watch) = self.watcher.watch() {
+            watch.counts.gone.add(1);
+        }
         if let Some(number) = number {
             self.register.spoke(self.rt, number);
         }
         line
+    }
+
+    // The next connection; none where none can be accepted, or the server ends.
+    fn accept(&self, street: &Street) -> Option<TcpStream> {
+        let watch = self.watcher.watch();
+        if is_ending(watch) {
+            return None;
+        }
+        match street.accept() {
+            Ok(stream) => stream,
+            Err(_) => {
+                tell_unserved(self.rt, watch);
+                None
+            }
+        }
     }
 
     // The session that the first line of these bytes asks for, if there may be one, with a role of that name; or why not.
@@ -157,12 +180,18 @@ impl<
     }
 
     // Tells the client why it isn't let in.
-    fn refuse(&self, stream: &TcpStream, reply: &Reply)
+    fn refuse(&self, arrival: &Arrival, reply: &Reply)
         requires { code_of reply.now ≢ 0 }
     {
-        let _told = stream.set_nodelay(true);
-        let mut writer = OverWrite::new(RetryingWriter { stream });
+        let _told = arrival.stream.set_nodelay(true);
+        let watch = self.watcher.watch();
+        let (_lines, answers) = ears(self.rt, watch, arrival.ahead.as_slice());
+        let mut writer = OverWrite::new(HeardWriter::new(&arrival.stream, answers));
         let _refused = refuse(self.alloc, &mut writer, reply);
+        let (ear, _untaken) = writer.into_inner().into_ear();
+        if let Some(ear) = ear {
+            ear.end(Ended::Closed);
+        }
     }
 
     // A connection that came, with its first line, if that is there already.
@@ -188,14 +217,17 @@ impl<
         let line = if ahead.is_empty() {
             self.owed_line(&stream)
         } else {
-            Some(ahead)
+            Ok(ahead)
         };
         match line {
-            Some(ahead) => match self.session_of(ahead.as_slice()) {
+            Ok(ahead) => match self.session_of(ahead.as_slice()) {
                 Ok(session) => self.enter(session, Arrival { stream, ahead }),
-                Err(reply) => self.turn_back(stream, &reply),
+                Err(reply) => self.turn_back(Arrival { stream, ahead }, &reply),
             },
-            None => {
+            Err(why) => {
+                if let Some(watch) = self.watcher.watch() {
+                    Ear::new(self.rt, watch, watch.came(), Side::Answers).end(why);
+                }
                 drop(stream);
                 self.register.ended(self.rt);
             }
@@ -203,12 +235,12 @@ impl<
     }
 
     // Refuses a connection that wasn't let in.
-    fn turn_back(&self, stream: TcpStream, reply: &Reply)
+    fn turn_back(&self, arrival: Arrival, reply: &Reply)
         requires { code_of reply.now ≢ 0 }
     {
-        self.refuse(&stream, reply);
-        linger(self.rt, &stream, Duration::from_secs(1));
-        drop(stream);
+        self.refuse(&arrival, reply);
+        linger(self.rt, &arrival.stream, Duration::from_secs(1));
+        drop(arrival);
         self.register.ended(self.rt);
     }
 
@@ -219,9 +251,14 @@ impl<
         match self.register.enter(self.rt, self.alloc, session, arrival) {
             Entered::Waits => {}
             Entered::First(told) => self.keep(&Queue::new(self.register, session, told)),
-            Entered::Full(arrival) => self.turn_back(arrival.stream, &Reply::Busy),
-            Entered::Barred(arrival) => self.turn_back(arrival.stream, &Reply::Unkept),
+            Entered::Full(arrival) => self.turn_back(arrival, &Reply::Busy),
+            Entered::Barred(arrival) => self.turn_back(arrival, &Reply::Unkept),
+            Entered::Over(arrival) => {
+                drop(arrival);
+                self.register.ended(self.rt);
+            }
             Entered::Memory(arrival) => {
+                tell_unserved(self.rt, self.watcher.watch());
                 drop(arrival);
                 self.register.ended(self.rt);
             }
@@ -253,7 +290,7 @@ impl<
             gate: &Unguarded,
             keepers,
         };
-        let served = serve_door(&serving, queue, self.limits)?;
+        let served = serve_door(&serving, queue, self.limits, &self.watcher)?;
         Ok(served.lost)
     }
 
@@ -346,22 +383,28 @@ impl<
         ensures { IsHosted result }
     {
         match self.host.open(queue.number()) {
-            Ok(opened) => match self.serve_opened(queue, opened) {
-                Ok(hosted) => hosted,
-                Err(AllocError) => Hosted::Shut(Reply::Answer(Answer::Refused(Refusal::Memory))),
-            },
+            Ok(opened) => {
+                let hosted = self.serve_opened(queue, opened);
+                if let Some(watch) = self.watcher.watch() {
+                    watch.counts.left.add(1);
+                }
+                match hosted {
+                    Ok(hosted) => hosted,
+                    Err(AllocError) => {
+                        Hosted::Shut(Reply::Answer(Answer::Refused(Refusal::Memory)))
+                    }
+                }
+            }
             Err(NotOpened { barred: true, .. }) => Hosted::Barred,
             Err(NotOpened { reply, .. }) => Hosted::Shut(reply),
         }
     }
 
-    // Lets nobody in to the session any more, and stays.
+    // Lets nobody in to the session any more, and stays until the server ends.
     fn keep_out(&self, session: u64) {
         self.register.bar(self.rt, session);
         self.turn_away(session, &Reply::Unkept);
-        for _ in self.rt.forever() {
-            thread::sleep(self.rt, Duration::from_secs(LONG));
-        }
+        self.register.await_end(self.rt);
     }
 
     // Opens the session as long as somebody wants it.
@@ -387,7 +430,7 @@ impl<
         for _ in self.rt.forever() {
             match self.register.leave(self.rt, session) {
                 Left::Gone => return false,
-                Left::Wanted => return true,
+                Left::Wanted => return !is_ending(self.watcher.watch()),
                 Left::Full => self.turn_away(session, &Reply::Busy),
             }
         }
@@ -400,7 +443,7 @@ impl<
     {
         let arrivals = self.register.turn_away(self.rt, self.alloc, session);
         for arrival in &arrivals {
-            self.refuse(&arrival.stream, reply);
+            self.refuse(arrival, reply);
         }
         let until = moment_after(self.rt, Duration::from_millis(BRIEF));
         for arrival in arrivals {
@@ -413,7 +456,7 @@ impl<
     }
 }
 
-// Accepts connections, a thread of the scope for each.
+// Accepts connections, a thread of the scope for each. Those who wait at the door when it is over aren't let in.
 fn accept_all<
     's,
     E,
@@ -421,22 +464,30 @@ fn accept_all<
     S: Sink + Send + Drop + 'static,
     D: Disk + Sync + Drop + 'static,
     H: Host<S, D> + Sync,
->(scope: &Scope<'s, E>, hosting: &'s Hosting<'s, R, S, D, H>, listener: &TcpListener) {
+>(scope: &Scope<'s, E>, hosting: &'s Hosting<'s, R, S, D, H>, street: &Street) {
     let rt = hosting.rt;
     let register = hosting.register;
     for _ in 0..hosting.limits.connections.unwrap_or(u64::MAX) {
         register.lets_in(rt);
-        match accept_next(listener) {
-            Ok(stream) => {
+        let came = hosting.accept(street);
+        if let Some(watch) = hosting.watcher.watch()
+            && watch.is_ending()
+        {
+            watch.ending(rt);
+            return register.end(rt);
+        }
+        match came {
+            Some(stream) => {
                 let Some(arrival) = hosting.let_in_at_once(hosting.arrival(stream)) else {
                     continue;
                 };
                 if scope.spawn(move || hosting.receive(arrival)).is_err() {
+                    tell_unserved(rt, hosting.watcher.watch());
                     register.ended(rt);
                     register.make_way(rt);
                 }
             }
-            Err(_) => {
+            None => {
                 register.ended(rt);
                 register.make_way(rt);
                 thread::sleep(rt, Duration::from_millis(PAUSE));
@@ -447,14 +498,16 @@ fn accept_all<
 }
 
 /// Accepts connections, and has the host open the session of each, unless it is open. It returns when as many have ended as
-/// are accepted, and all sessions are let go of; not where one may not be opened again since lines of it were lost.
+/// are accepted, and all sessions are let go of; not where one may not be opened again since lines of it were lost. Where who
+/// watches the server tells it to end, no more are accepted, and each ends once the line that it runs is answered; those that
+/// haven't ended within a second are cut. Then it returns, once what is being opened or stored is done.
 pub fn host_all<
     R: Threads + Wait + Clock + Eprint + Sync + 'static,
     S: Sink + Send + Drop + 'static,
     D: Disk + Sync + Drop + 'static,
     H: Host<S, D> + Sync,
->(hosting: &Hosting<'_, R, S, D, H>, listener: &TcpListener) {
+>(hosting: &Hosting<'_, R, S, D, H>, street: &Street) {
     thread::scope(thread::scope_env(), hosting.rt, move |scope| {
-        accept_all(scope, hosting, listener)
+        accept_all(scope, hosting, street)
     });
 }

@@ -1,9 +1,19 @@
 //! The connections that are open, which can all be ended at once.
 
 use crate::limits::Limits;
+use crate::overhearing::Watcher;
+use crate::patience::moment_after;
+use mps_watch::Watch;
 use std::alloc::{AllocError, Global};
 use std::net::{Shutdown, TcpStream};
 use std::sync::{Arc, Condvar, Mutex, Wait};
+use std::time::{Clock, Duration, Instant};
+
+// For how many seconds the lines that run are waited for where a server ends.
+const DRAIN: u64 = 1;
+
+// For how many milliseconds it isn't looked whether it was told to, while no connection is accepted.
+const LOOK: u64 = 100;
 
 // An open connection, how many came before it, and the session that it joined, if it did.
 #[derive(Drop)]
@@ -40,6 +50,11 @@ impl Visitors {
         }
     }
 
+    // Whether nobody is here.
+    fn is_empty(&self) -> bool {
+        self.places.iter().all(|place| place.is_none())
+    }
+
     // Puts the visitor to that place.
     fn put(&mut self, place: usize, visitor: Visitor) -> Result<(), AllocError> {
         if place < self.places.len() {
@@ -67,6 +82,8 @@ impl Visitors {
 #[derive(Drop)]
 pub(crate) struct Lobby {
     limits: Limits,
+    // who watches them
+    watcher: Watcher,
     // whether the oldest that joined no session makes room for the next one
     yields: bool,
     inside: Mutex<Visitors>,
@@ -76,7 +93,13 @@ pub(crate) struct Lobby {
 
 impl Lobby {
     // A lobby with so many places, where the oldest that joined no session may make room for the next one.
-    pub(crate) fn new(alloc: Global, most: usize, yields: bool, limits: Limits) -> Lobby {
+    pub(crate) fn new(
+        alloc: Global,
+        most: usize,
+        yields: bool,
+        limits: Limits,
+        watcher: Watcher,
+    ) -> Lobby {
         let inside = Visitors {
             places: Vec::new(alloc),
             most,
@@ -85,10 +108,16 @@ impl Lobby {
         };
         Lobby {
             limits,
+            watcher,
             yields,
             inside: Mutex::new(inside),
             left: Condvar::new(),
         }
+    }
+
+    // Who watches the connections, if somebody does.
+    pub(crate) fn watch(&self) -> Option<&Watch> {
+        self.watcher.watch()
     }
 
     // What is asked of the connections.
@@ -159,6 +188,53 @@ impl Lobby {
             if visitor.session == Some(session) {
                 visitor.end();
             }
+        }
+    }
+
+    // Waits until all connections have ended. Where the server is told to end meanwhile, it ends them.
+    pub(crate) fn wait_for_end<R: Wait + Clock + Eprint>(&self, rt: &R, watch: &Watch) {
+        for _ in rt.forever() {
+            if watch.is_ending() {
+                watch.ending(rt);
+                return self.drain(rt);
+            }
+            let inside = self.inside.lock(rt);
+            if inside.is_empty() {
+                return;
+            }
+            let (_inside, _result) = self
+                .left
+                .wait_timeout(rt, inside, Duration::from_millis(LOOK));
+        }
+    }
+
+    // Ends the connections once the lines that they run are answered: their readers, which are woken, read no more where the
+    // server ends. Those that haven't ended within a second are ended then.
+    fn drain<R: Wait + Clock>(&self, rt: &R) {
+        let inside = self.inside.lock(rt);
+        for visitor in inside.places.iter().flatten() {
+            let _heard = visitor.stream.shutdown(Shutdown::Read);
+        }
+        drop(inside);
+        if let Some(until) = moment_after(rt, Duration::from_secs(DRAIN)) {
+            self.wait_until(rt, until);
+        }
+        self.close(rt);
+    }
+
+    // Waits until all connections have ended, or that moment.
+    fn wait_until<R: Wait + Clock>(&self, rt: &R, until: Instant) {
+        let mut inside = self.inside.lock(rt);
+        for _ in rt.forever() {
+            let Ok(now) = Instant::now(rt) else {
+                return;
+            };
+            let left = until.saturating_duration_since(now);
+            if left.is_zero() || inside.is_empty() {
+                return;
+            }
+            let (guard, _result) = self.left.wait_timeout(rt, inside, left);
+            inside = guard;
         }
     }
 

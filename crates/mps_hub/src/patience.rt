@@ -3,6 +3,7 @@
 ghost use Rattle.std.specs.Io.{ReadsAtMost, WritesAtMost};
 
 use mps_lines::MAX_LINE;
+use mps_watch::{Ear, Watch};
 use std::alloc::Global;
 use std::io;
 use std::io::{ErrorKind, Read, Write};
@@ -156,6 +157,11 @@ pub(crate) struct TimedReader<'s, R> {
     idle: Option<Duration>,
     // whether a line has begun whose time begins at the next read: till then those before it are answered
     begun: bool,
+    // who watches, and who hears the lines, if somebody does
+    watch: Option<&'s Watch>,
+    ear: Option<Ear<'s, R>>,
+    // whether the time of a line was over
+    silent: bool,
 }
 
 impl<'s, R: Clock> TimedReader<'s, R> {
@@ -180,7 +186,35 @@ impl<'s, R: Clock> TimedReader<'s, R> {
             least: Duration::ZERO,
             idle,
             begun: false,
+            watch: None,
+            ear: None,
+            silent: false,
         })
+    }
+
+    // The same, which reads no more once the server is told to end by who watches it, and whose lines are heard, after what was
+    // read ahead.
+    pub(crate) fn watched(
+        self,
+        watch: Option<&'s Watch>,
+        ear: Option<Ear<'s, R>>,
+        ahead: &[u8],
+    ) -> TimedReader<'s, R>
+    where
+        R: Eprint,
+    {
+        let mut reader = self;
+        reader.watch = watch;
+        reader.ear = ear;
+        if let Some(ear) = &mut reader.ear {
+            ear.hear(ahead);
+        }
+        reader
+    }
+
+    // Whether the time of a line was over.
+    pub(crate) fn is_silent(&self) -> bool {
+        self.silent
     }
 }
 
@@ -214,16 +248,35 @@ impl<R: Clock> TimedReader<'_, R> {
     }
 }
 
-impl<R: Clock> Read for TimedReader<'_, R> {
-    fn read(&mut self, buf: &mut [u8]) -> io::Result<usize> {
-        self.begin();
-        let count = match self.until {
-            Some(until) => {
-                read_until(self.clock, self.stream, until, self.least, self.idle, buf)?
-            }
-            None => read_on(self.stream, buf)?,
+impl<R: Clock + Eprint> TimedReader<'_, R> {
+    // Reads what comes, as long as there is time for it.
+    fn read_in_time(&mut self, buf: &mut [u8]) -> io::Result<usize>
+        ensures { ReadsAtMost result buf.new }
+    {
+        let found = match self.until {
+            Some(until) => read_until(self.clock, self.stream, until, self.least, self.idle, buf),
+            None => read_on(self.stream, buf),
         };
-        self.heard(&buf[..count])?;
+        if let Err(error) = &found {
+            self.silent = matches!(error.kind(), ErrorKind::WouldBlock | ErrorKind::TimedOut);
+        }
+        found
+    }
+}
+
+impl<R: Clock + Eprint> Read for TimedReader<'_, R> {
+    fn read(&mut self, buf: &mut [u8]) -> io::Result<usize> {
+        // what came meanwhile isn't run any more
+        if self.watch.is_some_and(|watch| watch.is_ending()) {
+            return Ok(0);
+        }
+        self.begin();
+        let count = self.read_in_time(buf)?;
+        let piece = &buf[..count];
+        if let Some(ear) = &mut self.ear {
+            ear.hear(piece);
+        }
+        self.heard(piece)?;
         Ok(count)
     }
 }
@@ -236,7 +289,7 @@ pub(crate) struct LedReader<R> {
     rest: R,
 }
 
-impl<R> LedReader<R> {
+impl<R: Drop> LedReader<R> {
     // A reader that gives these bytes, and then what `rest` gives.
     pub(crate) fn new(ahead: Vec<u8>, rest: R) -> LedReader<R> {
         LedReader {
@@ -244,6 +297,12 @@ impl<R> LedReader<R> {
             given: 0,
             rest,
         }
+    }
+
+    // The other reader, as the last read left it.
+    pub(crate) fn into_rest(self) -> R {
+        let LedReader { rest, .. } = self;
+        rest
     }
 }
 

@@ -67,6 +67,8 @@ struct Sessions {
     joined: u64,
     // no more connections come
     over: bool,
+    // nor are those that are here waited for
+    ending: bool,
 }
 
 /// The sessions that are open.
@@ -77,6 +79,8 @@ pub struct Register {
     sessions: Mutex<Sessions>,
     // woken when a connection ended
     left: Condvar,
+    // woken when the server ends
+    ends: Condvar,
 }
 
 /// What becomes of a connection that asks for a session.
@@ -90,6 +94,8 @@ pub(crate) enum Entered {
     Full(Arrival),
     /// The session isn't opened again.
     Barred(Arrival),
+    /// The server ends.
+    Over(Arrival),
     Memory(Arrival),
 }
 
@@ -259,12 +265,14 @@ impl Register {
             connections: 0,
             joined: 0,
             over: false,
+            ending: false,
         };
         Register {
             most,
             keep,
             sessions: Mutex::new(sessions),
             left: Condvar::new(),
+            ends: Condvar::new(),
         }
     }
 
@@ -280,11 +288,15 @@ impl Register {
         sessions.connections = sessions.connections.saturating_add(1);
     }
 
-    // A connection came that owes its first line. Gives the number under which it is told of that line, if it could be
+    // A connection came that owes its first line, which is ended where the server ends. Gives the number under which it is told of that line, if it could be
     // noted; else it isn't ended for others.
     pub(crate) fn came<R: Wait>(&self, rt: &R, stream: &TcpStream) -> Option<u64> {
         let other = stream.try_clone().ok()?;
         let mut sessions = self.sessions.lock(rt);
+        if sessions.ending {
+            let _ended = other.shutdown(Shutdown::Both);
+            return None;
+        }
         if sessions.silent.len() >= MOST_SILENT {
             sessions.end_oldest();
         }
@@ -325,6 +337,28 @@ impl Register {
         }
     }
 
+    // The server ends: nobody is let in any more, and those that owe their first line are ended. The thread of each session
+    // ends the others.
+    pub(crate) fn end<R: Wait>(&self, rt: &R) {
+        let mut sessions = self.sessions.lock(rt);
+        sessions.ending = true;
+        for _ in 0..sessions.silent.len() {
+            sessions.end_oldest();
+        }
+        drop(sessions);
+        self.ends.notify_all();
+        self.close(rt);
+    }
+
+    // Waits until the server ends.
+    pub(crate) fn await_end<R: Wait>(&self, rt: &R) {
+        let sessions = self.sessions.lock(rt);
+        let sessions = self
+            .ends
+            .wait_while(rt, sessions, |sessions| !sessions.ending);
+        drop(sessions);
+    }
+
     // Has the arrival wait for the session, if that is open and takes it; else gives it back.
     pub(crate) fn enter_open<R: Wait>(
         &self,
@@ -354,6 +388,9 @@ impl Register {
     ) -> Entered {
         let mut guard = self.sessions.lock(rt);
         let sessions = &mut *guard;
+        if sessions.ending {
+            return Entered::Over(arrival);
+        }
         let arrival = match sessions.wait_in(number, arrival) {
             Ok(told) => {
                 // after the lock, which the thread that is woken needs
@@ -408,7 +445,7 @@ impl Register {
         let Some(entry) = sessions.entries.get(&number) else {
             return Left::Gone;
         };
-        if entry.waiting.is_empty() {
+        if entry.waiting.is_empty() || sessions.ending {
             sessions.remove(number);
             return Left::Gone;
         }
@@ -475,10 +512,11 @@ impl<'r> Queue<'r> {
     // What is next, by what is there now.
     fn look(&self, sessions: &mut Sessions) -> Next {
         let over = sessions.over;
+        let ending = sessions.ending;
         let Some(entry) = sessions.entries.get_mut(&self.number) else {
             return Next::Go;
         };
-        if entry.shut {
+        if entry.shut || ending {
             return Next::Go;
         }
         if let Some(arrival) = entry.waiting.pop_front() {

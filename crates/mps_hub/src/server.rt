@@ -2,20 +2,23 @@
 ghost use Rattle.std.specs.Prelude.{◌≡◌, ◌+◌, ◌<◌, ◌≤◌, ◌^◌, ◌↔◌, false, IfOk, IfErr, IfSome, IsOk, IsTrue, OnOk, OnErr, length};
 ghost use Rattle.mps_hub.specs.Serving.{IsServeFaultOf};
 
-use crate::attending::{Serving, Usher};
+use crate::attending::{Attended, Serving, Usher};
 use crate::desk::Desk;
 use crate::door::{Arrival, Coming, Door, Street};
 use crate::limits::Limits;
 use crate::lobby::Lobby;
-use crate::patience::{LedReader, RetryingWriter, TimedReader, linger};
+use crate::overhearing::{HeardWriter, Watcher, ears};
+use crate::patience::{LedReader, TimedReader, linger};
 use mps_dev::{OverRead, OverWrite, Sink};
 use mps_keeper::{Disk, Gate, Keeper, Unguarded};
+use mps_watch::{Ear, Ended, Watch};
+use mps_wire::Ending;
 use std::alloc::Global;
 use std::net::{TcpListener, TcpStream};
 use std::sync::{Arc, Wait};
-use std::thread;
 use std::thread::{Scope, Threads};
 use std::time::{Clock, Duration};
+use std::{io, thread};
 use thiserror::Error;
 
 // For how many milliseconds a server that accepts connections without end waits after one that couldn't be accepted.
@@ -28,7 +31,8 @@ struct NotStarted;
 // For how many seconds what a client still sends is read once its connection has ended.
 const LINGER: u64 = 1;
 
-/// How many connections there were: those that ended, and those whose thread couldn't be started, which were closed.
+/// How many connections there were: those that ended, and those whose thread couldn't be started, which were closed. Where
+/// the server was told to end, those that didn't come are among the first.
 #[derive(Clone, Copy, Debug, PartialEq, Eq)]
 pub struct Served {
     pub ended: u64,
@@ -115,17 +119,87 @@ fn end_lost<R: Wait, G, S: Sink, D, B: Door>(
     }
 }
 
-// Attends to the connection at that place of the lobby, and closes it. Answers are sent at once (`TCP_NODELAY`), where
-// the system can. Of a session of which lines were lost no connection goes on.
+// Whether the server was told to end, by who watches it.
+pub(crate) fn is_ending(watch: Option<&Watch>) -> bool {
+    watch.is_some_and(|watch| watch.is_ending())
+}
+
+// Tells who watches the server that a connection couldn't be served, unless it ends.
+pub(crate) fn tell_unserved<R: Eprint>(rt: &R, watch: Option<&Watch>) {
+    if let Some(watch) = watch
+        && !watch.is_ending()
+    {
+        watch.unserved(rt);
+    }
+}
+
+// The same, unless none is to be served any more.
+fn tell_not_let_in<R: Wait + Eprint, G, S: Sink, D>(
+    serving: &Serving<'_, '_, R, G, S, D>,
+    lobby: &Lobby,
+) {
+    if !is_over(lobby.limits().strict, serving.keepers) {
+        tell_unserved(serving.rt, lobby.watch());
+    }
+}
+
+// Whether lines were lost of that session.
+fn has_lost<R: Wait, G, S: Sink, D>(serving: &Serving<'_, '_, R, G, S, D>, session: u64) -> bool {
+    match session.checked_sub(serving.desk.first()) {
+        Some(place) => match serving.keepers.get(place as usize) {
+            Some(keeper) => is_lost(keeper),
+            None => false,
+        },
+        None => false,
+    }
+}
+
+// Why a connection ended, for whoever watches it, once it ended so: lines of its session were lost, or the time of its next
+// line was over, or neither.
+fn why_ended(watch: Option<&Watch>, attended: Attended, lost: bool, silent: bool) -> Ended {
+    match attended {
+        Attended::Unrecorded | Attended::Conversed(Ending::Untold) => Ended::Lost,
+        _ if lost => Ended::Lost,
+        _ if is_ending(watch) => Ended::Ending,
+        _ if silent => Ended::Silent,
+        Attended::Conversed(Ending::Closed | Ending::ReadFault | Ending::WriteFault)
+        | Attended::NoLine
+        | Attended::TurnedAway => Ended::Closed,
+        Attended::Conversed(Ending::Turns | Ending::Memory) | Attended::Memory => Ended::Fault,
+    }
+}
+
+// A connection that was attended to so has ended, for whoever watches it. It is silent where the time was over of its next line,
+// or for its answers.
+fn end_watched<R: Wait + Eprint, G, S: Sink, D>(
+    serving: &Serving<'_, '_, R, G, S, D>,
+    watch: Option<&Watch>,
+    attended: Attended,
+    silent: bool,
+    ear: Option<Ear<'_, R>>,
+) {
+    let Some(ear) = ear else {
+        return;
+    };
+    let lost = match ear.session() {
+        Some(session) => has_lost(serving, session),
+        None => false,
+    };
+    ear.end(why_ended(watch, attended, lost, silent));
+}
+
+// Attends to the connection at that place of the lobby, and closes it. Answers are sent at once (`TCP_NODELAY`), where the
+// system can. Of a session of which lines were lost no connection goes on.
 fn connection<
+    's,
     R: Wait + Clock + Eprint + 'static,
     G: Gate + 'static,
     S: Sink + 'static,
     D: Disk + 'static,
     B: Door,
 >(
-    serving: &Serving<'_, '_, R, G, S, D>,
-    lobby: &Lobby,
+    serving: &'s Serving<'s, '_, R, G, S, D>,
+    lobby: &'s Lobby,
     door: &B,
     number: u64,
     place: usize,
@@ -138,10 +212,22 @@ fn connection<
     let first = limits.first_line().filter(|_| ahead.is_empty());
     if let Some(timed) = TimedReader::new(rt, &stream, first, limits.idle) {
         let _set = stream.set_nodelay(true);
+        let watch = lobby.watch();
+        let (lines, answers) = ears(rt, watch, ahead.as_slice());
+        let timed = timed.watched(watch, lines, ahead.as_slice());
         let mut reader = OverRead::new(LedReader::new(ahead, timed));
-        let mut writer = OverWrite::new(RetryingWriter { stream: &stream });
+        let mut writer = OverWrite::new(HeardWriter::new(&stream, answers));
         let usher = LobbyPlace { rt, lobby, place };
-        let _ended = serving.attend_with(number, &usher, Some(&*stream), &mut reader, &mut writer);
+        let attended = serving.attend_with(
+            number,
+            &usher,
+            Some(&*stream),
+            &mut reader,
+            &mut writer,
+        );
+        let (ear, untaken) = writer.into_inner().into_ear();
+        let silent = untaken || reader.into_inner().into_rest().is_silent();
+        end_watched(serving, watch, attended, silent, ear);
     }
     end_lost(serving, lobby, door);
     linger(rt, &stream, Duration::from_secs(LINGER));
@@ -217,25 +303,36 @@ fn accept_all<
     door: &'s B,
 ) -> Result<u64, ServeFault> {
     let limits = lobby.limits();
+    let watch = lobby.watch();
     let mut lost = 0;
     for earlier in 0..limits.connections.unwrap_or(u64::MAX) {
-        if !lobby.lets_in(serving.rt) {
+        if is_ending(watch) || !lobby.lets_in(serving.rt) {
             return Ok(lost);
         }
         match door.next(serving.rt, serving.alloc) {
+            // the listener was shut, or it was knocked at
+            Coming::Failed(_) | Coming::Came(_) if is_ending(watch) => return Ok(lost),
             Coming::Came(arrival) => {
                 let started = let_in(scope, serving, lobby, door, earlier + 1, arrival);
+                if started.is_err() {
+                    tell_not_let_in(serving, lobby);
+                }
                 lost = count_lost(lost, &started);
             }
-            Coming::Failed(_) if limits.connections.is_none() => thread::sleep(
-                serving.rt,
-                Duration::from_millis(PAUSE),
-            ),
+            Coming::Failed(_) if limits.connections.is_none() => {
+                tell_not_let_in(serving, lobby);
+                thread::sleep(serving.rt, Duration::from_millis(PAUSE));
+            }
             Coming::Failed(fault) => return Err(fault),
             Coming::Over => return Ok(lost),
         }
     }
     Ok(lost)
+}
+
+// The door of a caller's listener.
+fn street_of(listener: &TcpListener) -> io::Result<Street> {
+    Street::own(listener.try_clone()?)
 }
 
 /// Accepts connections, attends to each in a thread of its own, and returns when all have ended. A connection whose
@@ -258,29 +355,42 @@ pub fn serve_recorded<
     ensures unrecorded { IfErr result
         (IsServeFaultOf limits.strict serving.now.desk.now.first (length serving.now.keepers.now)) }
 {
-    let Some(street) = Street::new(listener) else {
+    let Ok(street) = street_of(listener) else {
         return Err(ServeFault::Accept);
     };
-    serve_door(serving, &street, limits)
+    serve_door(serving, &street, limits, &Watcher::nobody())
 }
 
-/// The same for connections that come through any door; it also returns once that is over, where all that come are
-/// accepted.
+/// The same for connections that come through any door, and for who watches the server. Where they tell it to end, no more are let
+/// in, each ends once the line that it runs is answered, and those that haven't ended within a second are cut. It also returns once
+/// the door is over, where all that come are accepted.
 pub fn serve_door<
     R: Threads + Wait + Clock + Eprint + Sync + 'static,
     G: Gate + Sync + 'static,
     S: Sink + Send + 'static,
     D: Disk + Sync + 'static,
     B: Door + Sync,
->(serving: &Serving<'_, '_, R, G, S, D>, door: &B, limits: Limits) -> Result<Served, ServeFault>
+>(
+    serving: &Serving<'_, '_, R, G, S, D>,
+    door: &B,
+    limits: Limits,
+    watcher: &Watcher,
+) -> Result<Served, ServeFault>
     requires keepers { length serving.now.keepers.now ≤ length serving.now.desk.now.cells }
     ensures served { IfOk result (λ s. IfSome limits.connections (λ n. s.ended + s.lost ≡ n)) }
     ensures unrecorded { IfErr result
         (IsServeFaultOf limits.strict serving.now.desk.now.first (length serving.now.keepers.now)) }
 {
-    let lobby = &Lobby::new(serving.alloc, door.places(), door.yields(), limits);
+    let Ok(watcher) = watcher.shared() else {
+        return Err(ServeFault::Memory);
+    };
+    let lobby = &Lobby::new(serving.alloc, door.places(), door.yields(), limits, watcher);
     let accepted = thread::scope(thread::scope_env(), serving.rt, move |scope| {
-        accept_all(scope, serving, lobby, door)
+        let accepted = accept_all(scope, serving, lobby, door);
+        if let Some(watch) = lobby.watch() {
+            lobby.wait_for_end(serving.rt, watch);
+        }
+        accepted
     });
     if limits.strict {
         if let Some(place) = first_lost(serving.keepers) {

@@ -39,6 +39,12 @@ pub trait Disk {
 
     /// Is called once, when the first line is lost, to tell whoever looks after the server.
     fn lost<R: Eprint>(&self, rt: &R);
+
+    /// A line waits to be stored from here on, for whoever counts them.
+    fn awaited(&self) {}
+
+    /// One that waited doesn't any more: it is stored, or lost.
+    fn settled(&self) {}
 }
 
 /// A file that stores what was written each time, and tells nobody of what is lost.
@@ -272,12 +278,24 @@ impl<W: Sink, D: Disk> Keeper<W, D> {
         }
     }
 
-    // Has the lines recorded that wait, unless they are by then. Says whether so many are. Nothing is written after a
-    // failure, and nothing synced, since the next sync may succeed although lines were lost.
+    // Has the lines recorded that wait, unless they are. Says whether so many are. Meanwhile the disk counts that one waits.
     fn flush<R: Wait + Eprint>(&self, rt: &R, count: u64) -> bool {
         if self.has_recorded(count) {
             return true;
         }
+        if let Some(disk) = &self.disk {
+            disk.awaited();
+        }
+        let recorded = self.flush_now(rt, count);
+        if let Some(disk) = &self.disk {
+            disk.settled();
+        }
+        recorded
+    }
+
+    // The same, unless they are by then. Nothing is written after a failure, and nothing synced, since the next sync may
+    // succeed although lines were lost.
+    fn flush_now<R: Wait + Eprint>(&self, rt: &R, count: u64) -> bool {
         let mut writing = self.writing.lock(rt);
         if self.has_recorded(count) {
             return true;

@@ -1,4 +1,5 @@
 pub mod Texts
+pub mod Alike
 pub mod Faults
 pub mod Choices
 pub mod Private

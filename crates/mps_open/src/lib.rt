@@ -5,6 +5,7 @@
 //! ```
 #![tactic(auto)]
 
+pub mod alike;
 pub mod choice;
 pub mod fault;
 pub mod laws;

@@ -5,6 +5,7 @@ pub mod Ends
 pub mod Faults
 pub mod Files
 pub mod Journals
+pub mod Kept
 pub mod Served
 pub mod Hosted
 pub mod Streams

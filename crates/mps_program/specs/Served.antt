@@ -3,6 +3,9 @@ use Rattle.std.specs.Prelude.{◌≡◌, ◌+◌, ◌<◌, ◌≤◌, ◌⊎◌,
 use Rattle.std.specs.Prelude.{length, Bool, true, if◌then◌else◌}
 use Rattle.std.specs.Option.{is_some}
 use Rattle.std.specs.Io.KnownBytes.{Appends}
+use Rattle.std.specs.Net.Addr.{IsLoopbackV4, IsV4And}
+use Rattle.std.specs.Net.Socket.{socket_ip, socket_port}
+use Rattle.std.specs.declared.net.socket_addr.SocketAddr.{SocketAddr}
 use Rattle.mps_base.specs.Numbers.{IsNumberText}
 use Rattle.mps_room.specs.RoomState.{RoomState}
 use Rattle.mps_cell.specs.Cells.{Opened}
@@ -17,6 +20,10 @@ use Rattle.mps_words.specs.declared.command.ProtocolFile.{ProtocolFile}
 -- the port of a listener that was to have this one, where 0 is any that is free
 abbrev pub IsPortFor : (wanted port : ℕ) → Type 0
 IsPortFor wanted port = (wanted ≡ 0) ⊎ (port ≡ wanted)
+
+-- an address of this machine alone, by version 4 of IP, at this port, where 0 is any
+abbrev pub IsAtPort : (port : ℕ) → SocketAddr → Type 0
+IsAtPort port addr = IsV4And (socket_ip addr) IsLoopbackV4 × IsPortFor port (socket_port addr)
 
 -- the line that tells the port
 abbrev pub IsListeningLine : ℕ → List ℕ → Type 0

@@ -113,6 +113,8 @@ pub fn obey<
             wait,
             share,
             journal,
+            watched,
+            listener,
             verbose,
         } => {
             let limits = Limits {
@@ -128,6 +130,8 @@ pub fn obey<
                 limits,
                 wait: wait.map(|seconds| Duration::from_secs(seconds)),
                 journal,
+                watched,
+                listener,
             };
             serve_file(rt, file, service, verbose)?;
             Ok(0)
@@ -141,6 +145,8 @@ pub fn obey<
             wait,
             share,
             journal,
+            watched,
+            listener,
             verbose,
         } => {
             let service = HostService {
@@ -155,6 +161,8 @@ pub fn obey<
                     share: share_of(share),
                 },
                 journal,
+                watched,
+                listener,
             };
             host_file(rt, file, service, verbose)?;
             Ok(0)

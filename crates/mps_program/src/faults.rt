@@ -238,8 +238,8 @@ pub fn fault_line(alloc: Global, fault: &ToolFault<'_>) -> Result<Vec<u8>, Alloc
     Ok(fault.to_string(alloc)?.into_bytes())
 }
 
-// What the system says of a fault of a file, of the port or of a journal, if it is kept.
-fn reason_of<'f>(fault: &'f ToolFault<'_>) -> Option<&'f io::Error> {
+/// What the system says of a fault of a file, of the port or of a journal, if it is kept.
+pub(crate) fn reason_of<'f>(fault: &'f ToolFault<'_>) -> Option<&'f io::Error> {
     match fault {
         ToolFault::File { why, .. } => why.as_ref(),
         ToolFault::Read { why } => why.as_ref(),

@@ -77,6 +77,21 @@ pub(crate) fn has_protocol<'a, R: Files<File = File> + AllocGlobal>(
     }
 }
 
+/// The text that the file has before its LF, as far as it can be read; none where there is none.
+pub(crate) fn text_in<R: Files<File = File> + AllocGlobal>(
+    rt: &R,
+    path: &str,
+) -> Result<Option<Vec<u8>>, AllocError> {
+    match file_bytes(rt, path, MOST_PROTOCOL) {
+        Ok(mut found) => Ok(match found.pop() {
+            Some(b'\n') => Some(found),
+            _ => None,
+        }),
+        Err(error) if error.kind() == ErrorKind::OutOfMemory => Err(AllocError),
+        Err(_) => Ok(None),
+    }
+}
+
 /// The folder can't be used, for what the system says.
 pub(crate) fn unusable<'a>(folder: &'a str, error: io::Error) -> ToolFault<'a>
     ensures { IsFolderFault folder.now result }

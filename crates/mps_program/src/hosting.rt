@@ -3,25 +3,31 @@ ghost use Rattle.std.specs.Prelude.{◌≡◌, ◌≢◌, ◌≤◌, ◌^◌, fa
 ghost use Rattle.std.specs.Option.{option_map};
 ghost use Rattle.mps_line.specs.Codes.{code_of};
 ghost use Rattle.mps_program.specs.Faults.{without};
-ghost use Rattle.mps_program.specs.Hosted.{IsHostFault};
+ghost use Rattle.mps_program.specs.Hosted.{IsClaimFault, IsDoorFault, IsHostFault};
 ghost use Rattle.mps_program.specs.Journals.{IsFolderFault, IsOneFault};
 
+use crate::entrance::{Entrance, Listening};
 use crate::faults::{ToolFault, told};
 use crate::folder::Keeping;
 use crate::journals::Folder;
+use crate::kept::kept_text;
 use crate::load::load_file;
 use crate::own_files::OwnFiles;
 use crate::rooms::rooms_of;
-use crate::serving::{listen, lookout_of, tell_fault, tell_lost, tell_port};
+use crate::serving::{lookout_of, tell_fault, tell_lost, tell_port};
+use crate::watching::{
+    Watching, count_restored, enter, noticed, open_door, shared, tell_opened, watch_of, watcher_of,
+};
 use mps_base::Roles;
 use mps_command::{Answer, Refusal};
 use mps_dev::OverWrite;
 use mps_file::{FileKeeper, JournalDisk, JournalFile, Unsynced};
-use mps_hub::{Host, Hosting, Limits, NotOpened, OpenSession, Register, RestoredRoom, host_all};
+use mps_hub::{
+    Host, Hosting, Limits, NotOpened, OpenSession, Register, RestoredRoom, Street, host_all,
+};
 use mps_line::Reply;
 use mps_open::Opening;
-use mps_text::write_protocol;
-use mps_words::{JournalFolder, ProtocolFile};
+use mps_words::{JournalFolder, ProtocolFile, Watched};
 use std::fs::File;
 use std::io;
 use std::io::ErrorKind;
@@ -31,7 +37,7 @@ use std::rt::Files;
 use std::sync::atomic::{AtomicBool, Ordering};
 use std::sync::{Arc, Mutex, Wait};
 use std::thread::Threads;
-use std::time::{Clock, Duration};
+use std::time::{Clock, Duration, Instant};
 
 /// How sessions are hosted: the port, how many may be open, for how long one stays open in which nobody is, the limits of
 /// connections, and where the sessions are recorded, if they are.
@@ -44,6 +50,10 @@ pub struct HostService<'a> {
     /// How long an answer may wait where its line says so. `None`: no line may say so.
     pub wait: Option<Duration>,
     pub journal: Option<JournalFolder<'a>>,
+    /// Who watches it.
+    pub watched: Watched,
+    /// The descriptor of what listens at that port already, if something does.
+    pub listener: Option<u64>,
 }
 
 // Where the sessions are recorded, and what is known of them there.
@@ -58,25 +68,37 @@ struct Records<'a> {
 struct House<'o, 'a, F> {
     rt: &'o F,
     opening: &'o Opening,
-    // the protocol's text
+    // the text by which journals are sealed
     protocol: &'o [u8],
     records: Option<Records<'a>>,
     verbose: bool,
+    watching: Option<Watching>,
 }
 
 impl<
     'o,
     'a,
-    F: OwnFiles + AllocGlobal + Eprint + Net<Listener = TcpListener, Stream = TcpStream> + Wait,
+    F: OwnFiles
+        + AllocGlobal
+        + Eprint
+        + Net<Listener = TcpListener, Stream = TcpStream>
+        + Wait
+        + Clock,
 > House<'o, 'a, F> {
+    // Who watches, if somebody does.
+    fn watching(&self) -> Option<&Watching> {
+        self.watching.as_ref()
+    }
+
     // The folder with that journal.
-    fn folder(&self, journal: JournalFolder<'a>) -> Folder<'o, 'a> {
+    fn folder(&self, journal: JournalFolder<'a>) -> Folder<'_, 'a> {
         Folder {
             alloc: self.rt.alloc(),
             opening: self.opening,
             protocol: self.protocol,
             journal,
             verbose: self.verbose,
+            watching: self.watching(),
         }
     }
 
@@ -131,6 +153,28 @@ impl<
             keepers,
             barred,
         })
+    }
+
+    // Counts that a session couldn't be opened.
+    fn count_refused(&self) {
+        if let Some(watching) = self.watching() {
+            watching.watch.counts.refused.add(1);
+        }
+    }
+
+    // Opens the session, while it counts as one that is being opened.
+    fn counted(&self, session: u64) -> Tried<'a>
+        ensures one { IfOk result.0 (λ opened. length opened.rooms.items ≡ 1) }
+        ensures few { IfOk result.0 (λ opened. length opened.keepers.items ≤ 1) }
+    {
+        if let Some(watching) = self.watching() {
+            watching.watch.counts.asked.add(1);
+        }
+        let tried = self.tried(session);
+        if let Some(watching) = self.watching() {
+            watching.watch.counts.tried.add(1);
+        }
+        tried
     }
 
     // Opens the session.
@@ -194,7 +238,12 @@ fn reply_to(fault: &ToolFault<'_>) -> Reply
 impl<
     'o,
     'a,
-    F: OwnFiles + AllocGlobal + Eprint + Net<Listener = TcpListener, Stream = TcpStream> + Wait,
+    F: OwnFiles
+        + AllocGlobal
+        + Eprint
+        + Net<Listener = TcpListener, Stream = TcpStream>
+        + Wait
+        + Clock,
 > Host<OverWrite<JournalFile>, JournalDisk> for House<'o, 'a, F> {
     fn roles(&self) -> &Roles {
         &self.opening.roles
@@ -207,13 +256,25 @@ impl<
         &self,
         session: u64,
     ) -> Result<OpenSession<OverWrite<JournalFile>, JournalDisk>, NotOpened> {
-        let (done, barred) = self.tried(session);
+        let began = Instant::now(self.rt);
+        let (done, barred) = self.counted(session);
         match done {
-            Ok(opened) => Ok(opened),
+            Ok(opened) => {
+                count_restored(self.rt, self.watching(), began, opened.rooms.as_slice());
+                tell_opened(
+                    self.rt,
+                    self.watching(),
+                    session,
+                    opened.rooms.as_slice(),
+                    opened.keepers.as_slice(),
+                );
+                Ok(opened)
+            }
             Err(fault) => {
                 let reply = reply_to(&fault);
                 if !is_elsewhere(&fault) {
-                    tell_fault(self.rt, fault, self.verbose);
+                    self.count_refused();
+                    tell_fault(self.rt, fault, self.verbose, self.watching());
                 }
                 Err(NotOpened { reply, barred })
             }
@@ -223,6 +284,9 @@ impl<
     // A session that never had an entry leaves no file.
     fn leave(&self, session: u64, entries: u64, lost: u64) {
         tell_lost(self.rt, lost, self.verbose);
+        if let Some(watching) = self.watching() {
+            watching.watch.left(self.rt, session, entries);
+        }
         let Some(records) = &self.records else {
             return;
         };
@@ -244,6 +308,7 @@ fn records_of<'a, R: Files<File = File> + OwnFiles + AllocGlobal>(
     protocol: &[u8],
     journal: JournalFolder<'a>,
     verbose: bool,
+    watching: Option<&Watching>,
 ) -> Result<Records<'a>, ToolFault<'a>>
     ensures fault { IfErr result (IsFolderFault journal.entry.folder.now) }
 {
@@ -253,6 +318,7 @@ fn records_of<'a, R: Files<File = File> + OwnFiles + AllocGlobal>(
         protocol,
         journal,
         verbose,
+        watching,
     };
     Ok(Records {
         journal,
@@ -260,7 +326,100 @@ fn records_of<'a, R: Files<File = File> + OwnFiles + AllocGlobal>(
     })
 }
 
+// The text by which the sessions' journals are sealed, if they are recorded.
+fn sealing_text<'a, R: Files<File = File> + AllocGlobal>(
+    rt: &R,
+    opening: &Opening,
+    journal: Option<JournalFolder<'a>>,
+) -> Result<Vec<u8>, ToolFault<'a>>
+    ensures fault { IfErr result (IsClaimFault (option_map (λ j. j.folder.now) journal.entry)) }
+{
+    match journal {
+        Some(journal) => kept_text(rt, journal.folder, opening),
+        None => Ok(Vec::new(rt.alloc())),
+    }
+}
+
+// Where those who come are let in. The port is told.
+fn open_at<'a, R>(
+    rt: &R,
+    entrance: Entrance,
+    watching: Option<&Watching>,
+) -> Result<Street, ToolFault<'a>>
+where
+    R: Files<File = File>
+        + AllocGlobal
+        + Print
+        + Eprint
+        + Net<Listener = TcpListener, Stream = TcpStream>
+        + Threads,
+    ensures fault { IfErr result IsDoorFault }
+{
+    let Listening { street, port } = entrance.open(rt)?;
+    open_door(rt, watching, &street, port)?;
+    tell_port(rt.alloc(), &mut OverWrite::new(io::writer(rt)), port)?;
+    Ok(street)
+}
+
 // Hosts sessions of the protocol in the file at a port of 127.0.0.1. A fault says what the system says of it.
+fn host_watched<'a, R>(
+    rt: &R,
+    file: ProtocolFile<'a>,
+    service: HostService<'a>,
+    entrance: Entrance,
+    verbose: bool,
+    watching: Option<&Watching>,
+) -> Result<(), ToolFault<'a>>
+where
+    R: Files<File = File>
+        + OwnFiles
+        + AllocGlobal
+        + Print
+        + Eprint
+        + Net<Listener = TcpListener, Stream = TcpStream>
+        + Clock
+        + Threads
+        + Wait
+        + Sync
+        + 'static,
+    ensures fault { IfErr result
+        (IsHostFault file.entry (option_map (λ j. j.folder.now) service.entry.journal)) }
+{
+    let alloc = rt.alloc();
+    let opening = load_file(rt, file)?;
+    let protocol = sealing_text(rt, &opening, service.journal)?;
+    let protocol = protocol.as_slice();
+    let records = match service.journal {
+        Some(journal) => { Some(records_of(rt, &opening, protocol, journal, verbose, watching)?) }
+        None => None,
+    };
+    let house = House {
+        rt,
+        opening: &opening,
+        protocol,
+        records,
+        verbose,
+        watching: shared(watching)?,
+    };
+    let keep = service.journal.map(|_| service.keep);
+    let register = Register::new(alloc, service.open, keep);
+    let lookout = lookout_of(rt, alloc, service.open, service.wait)?;
+    let street = open_at(rt, entrance, watching)?;
+    let hosting = Hosting {
+        rt,
+        alloc,
+        register: &register,
+        host: &house,
+        limits: service.limits,
+        lookout,
+        watcher: watcher_of(watching)?,
+        of: PhantomData,
+    };
+    host_all(&hosting, &street);
+    Ok(())
+}
+
+// The same; who watches is told of its fault, if it has one.
 fn host_from<'a, R>(
     rt: &R,
     file: ProtocolFile<'a>,
@@ -283,36 +442,14 @@ where
         (IsHostFault file.entry (option_map (λ j. j.folder.now) service.entry.journal)) }
 {
     let alloc = rt.alloc();
-    let opening = load_file(rt, file)?;
-    let protocol = write_protocol(alloc, &opening.protocol)?;
-    let protocol = protocol.as_slice();
-    let records = match service.journal {
-        Some(journal) => Some(records_of(rt, &opening, protocol, journal, verbose)?),
-        None => None,
+    let watching = watch_of(alloc, service.watched)?;
+    let watching = watching.as_ref();
+    let metrics = service.watched.metrics;
+    let hosted = match enter(rt, alloc, service.port, service.listener, watching, metrics) {
+        Ok(entrance) => host_watched(rt, file, service, entrance, verbose, watching),
+        Err(fault) => Err(fault),
     };
-    let house = House {
-        rt,
-        opening: &opening,
-        protocol,
-        records,
-        verbose,
-    };
-    let keep = service.journal.map(|_| service.keep);
-    let register = Register::new(alloc, service.open, keep);
-    let lookout = lookout_of(rt, alloc, service.open, service.wait)?;
-    let (listener, found) = listen(rt, service.port)?;
-    tell_port(alloc, &mut OverWrite::new(io::writer(rt)), found)?;
-    let hosting = Hosting {
-        rt,
-        alloc,
-        register: &register,
-        host: &house,
-        limits: service.limits,
-        lookout,
-        of: PhantomData,
-    };
-    host_all(&hosting, &listener);
-    Ok(())
+    noticed(rt, watching, hosted)
 }
 
 /// Hosts sessions of the protocol in the file at a port of 127.0.0.1: each is opened when somebody joins it. Where more is to

@@ -12,25 +12,28 @@ use crate::folder::{
     Begun, Keeping, has_protocol, make_folder, names, open_own, recorder_of, sync_folders,
     unusable, write_whole,
 };
+use crate::kept::kept_text;
 use crate::own_files::OwnFiles;
+use crate::progress::Progress;
 use crate::rooms::{room_of, rooms_of};
+use crate::watching::Watching;
 use mps_dev::OverWrite;
 use mps_file::{
-    About, FileKeeper, Note, OwnFile, RecorderStream, Unsynced, cut_off, held, marked, parted,
-    restore, torn,
+    About, FileKeeper, JournalDisk, JournalFile, Note, OwnFile, RecorderStream, Unsynced, cut_off,
+    held, marked, parted, restore, torn,
 };
 use mps_hub::RestoredRoom;
 use mps_keeper::{Book, Keeper, RestoreFault, Restored};
 use mps_open::Opening;
-use mps_text::write_protocol;
 use mps_words::JournalFolder;
-use std::alloc::Global;
+use std::alloc::{AllocError, Global};
 use std::fs::File;
 use std::io::ErrorKind;
 use std::net::{Net, TcpListener, TcpStream};
 use std::rt::Files;
 use std::sync::Arc;
 use std::sync::atomic::AtomicBool;
+use std::time::Clock;
 use std::{fs, io};
 
 // How many bytes the mark of a file has, with its LF.
@@ -53,10 +56,12 @@ pub struct Sessions<'a> {
 pub(crate) struct Folder<'o, 'a> {
     pub(crate) alloc: Global,
     pub(crate) opening: &'o Opening,
-    /// The protocol's text.
+    /// The protocol's text, by which journals are sealed.
     pub(crate) protocol: &'o [u8],
     pub(crate) journal: JournalFolder<'a>,
     pub(crate) verbose: bool,
+    /// Who watches what is written, if somebody does.
+    pub(crate) watching: Option<&'o Watching>,
 }
 
 // The faults of sessions that were refused while others go on. Where it is strict none does.
@@ -391,7 +396,13 @@ impl<'o, 'a> Folder<'o, 'a> {
     }
 
     // Restores each session from its file.
-    fn restore_all<R: OwnFiles + AllocGlobal + Net<Listener = TcpListener, Stream = TcpStream>>(
+    fn restore_all<
+        R: OwnFiles
+            + AllocGlobal
+            + Eprint
+            + Net<Listener = TcpListener, Stream = TcpStream>
+            + Clock,
+    >(
         &self,
         rt: &R,
         keeping: &mut Keeping,
@@ -410,9 +421,12 @@ impl<'o, 'a> Folder<'o, 'a> {
     {
         let mut rooms = Vec::new(self.alloc);
         let mut read = Vec::new(self.alloc);
+        let mut progress = Progress::new(rt, refusals.sessions);
         for place in 0..refusals.sessions {
             let session = refusals.first + place;
+            progress.tell(place);
             let done = self.restore_begun(rt, keeping, session);
+            progress.clear();
             let (room, file) = self.room_and_file(refusals.or_none(session, done)?)?;
             rooms.push(room)?;
             read.push(file)?;
@@ -449,6 +463,19 @@ impl<'o, 'a> Folder<'o, 'a> {
         Ok(())
     }
 
+    // The two parts of a file, which are watched where somebody watches.
+    fn watched(
+        &self,
+        sink: JournalFile,
+        disk: JournalDisk,
+    ) -> Result<(JournalFile, JournalDisk), AllocError> {
+        let Some(Watching { watch, .. }) = self.watching else {
+            return Ok((sink, disk));
+        };
+        let (written, stored) = (Arc::try_clone(watch)?, Arc::try_clone(watch)?);
+        Ok((sink.watched(written), disk.watched(stored)))
+    }
+
     // The keeper of the session, whose file is cut to its whole lines, and marked where its lines had no seals so far.
     fn keeper<R: OwnFiles + Eprint>(
         &self,
@@ -475,6 +502,7 @@ impl<'o, 'a> Folder<'o, 'a> {
         let again = Arc::try_clone(&file)?;
         let (sink, disk) = parted(self.alloc, file, about, note, unsynced)?;
         held(&again, disk.sync_all())?;
+        let (sink, disk) = self.watched(sink, disk)?;
         let book = Book::new(OverWrite::new(sink), restored.lines, chain.seal);
         Ok(Keeper::new(self.alloc, book, Some(disk))?)
     }
@@ -631,7 +659,8 @@ pub fn record_sessions<
         + OwnFiles
         + AllocGlobal
         + Eprint
-        + Net<Listener = TcpListener, Stream = TcpStream>,
+        + Net<Listener = TcpListener, Stream = TcpStream>
+        + Clock,
 >(
     rt: &R,
     opening: &Opening,
@@ -639,6 +668,7 @@ pub fn record_sessions<
     sessions: u64,
     journal: JournalFolder<'a>,
     verbose: bool,
+    watching: Option<&Watching>,
 ) -> Result<Sessions<'a>, ToolFault<'a>>
     requires { first + sessions < 2 ^ 64 }
     ensures count { IfOk result (λ r. length r.rooms.items ≡ sessions) }
@@ -649,13 +679,14 @@ pub fn record_sessions<
     ensures refused { IfOk result (λ r. All (IsFileFaultOf first sessions) r.refused.items) }
 {
     let alloc = rt.alloc();
-    let protocol = write_protocol(alloc, &opening.protocol)?;
+    let protocol = kept_text(rt, journal.folder, opening)?;
     let of = Folder {
         alloc,
         opening,
         protocol: protocol.as_slice(),
         journal,
         verbose,
+        watching,
     };
     let mut refusals = Refusals {
         strict: journal.strict,

@@ -4,6 +4,8 @@
 
 mod check;
 mod comparison;
+mod counting;
+mod entrance;
 mod entry;
 mod faults;
 mod files;
@@ -11,17 +13,21 @@ mod flaws;
 mod folder;
 mod hosting;
 mod journals;
+mod kept;
 mod load;
 mod own_files;
+mod progress;
 mod rooms;
 mod running;
 mod serving;
 mod tally;
 mod until;
 mod watched;
+mod watching;
 
 pub use check::{check_file, lines_of, write_types};
 pub use comparison::{Tallies, compare_files, verdict_of};
+pub use entrance::Entrance;
 pub use entry::{carry_out, end, end_after, end_with, obey, program};
 pub use faults::{ToolFault, fault_line, status};
 pub use files::{Noted, open_file, read_text};
@@ -36,3 +42,4 @@ pub use serving::{Service, serve_file, serve_to};
 pub use tally::{Strict, Tally};
 pub use until::Until;
 pub use watched::Watched;
+pub use watching::Watching;

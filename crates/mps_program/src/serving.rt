@@ -6,37 +6,38 @@ ghost use Rattle.mps_local.specs.Local.{plain};
 ghost use Rattle.mps_program.specs.Faults.{after_writes, without};
 ghost use Rattle.mps_program.specs.Journals.{IsSessionsFault, recorded_of};
 ghost use Rattle.mps_program.specs.Served.{AreLinesUpTo, AreSessionLines, HasServed, HasServedUpTo, IfLost};
-ghost use Rattle.mps_program.specs.Served.{IsBindFault, IsListeningLine, IsOutFault, IsPortFor, IsServeFault};
+ghost use Rattle.mps_program.specs.Served.{IsBindFault, IsListeningLine, IsOutFault, IsServeFault};
 ghost use Rattle.mps_program.specs.Served.{IsSessionLine, IsTellFault, is_first_served, past_first, served_of};
 ghost use Rattle.mps_program.specs.Private.Served.{IsHubFault, TellsPort, TookOne, of_serving};
 
+use crate::entrance::{Entrance, Listening};
 use crate::faults::{ToolFault, report, told, without_reason};
 use crate::files::tell;
 use crate::journals::{Sessions, record_sessions};
 use crate::load::load_file;
 use crate::own_files::OwnFiles;
 use crate::rooms::rooms_of;
+use crate::watching::{
+    Watching, count_restored, enter, noticed, open_door, tell_opened, tell_watched, watch_of,
+    watcher_of,
+};
 use mps_base::write_number;
 use mps_dev::{OverWrite, Sink};
 use mps_file::FileKeeper;
 use mps_hub::{
-    Hub, Limits, Lookout, ServeFault, Serving, Shares, Unguarded, Waits, first_lost, serve_recorded,
+    Hub, Limits, Lookout, ServeFault, Serving, Shares, Unguarded, Waits, first_lost, serve_door,
 };
 use mps_open::Opening;
 use mps_room::Room;
-use mps_words::{JournalFolder, ProtocolFile};
+use mps_words::{JournalFolder, ProtocolFile, Watched};
 use std::alloc::{AllocError, Global};
 use std::fs::File;
 use std::io;
-use std::net::{Ipv4Addr, Net, SocketAddr, TcpListener, TcpStream};
-use std::os::fd::AsRawFd;
+use std::net::{Net, TcpListener, TcpStream};
 use std::rt::Files;
 use std::sync::{Arc, Wait};
 use std::thread::Threads;
-use std::time::{Clock, Duration};
-
-// How many connections may wait to be accepted.
-const BACKLOG: i32 = 1_024;
+use std::time::{Clock, Duration, Instant};
 
 // The line that tells the port.
 fn listening_line(alloc: Global, port: u16) -> Result<Vec<u8>, AllocError>
@@ -143,39 +144,6 @@ fn tell_sessions<'a, W: Sink>(
     tell_sessions(alloc, writer, session + 1, past_first(keepers), later)
 }
 
-// The port of a listener that was to have this one, where 0 is any that is free.
-fn port_of<'a>(listener: &TcpListener, wanted: u16) -> Result<u16, ToolFault<'a>>
-    ensures port { IfOk result (IsPortFor wanted) }
-    ensures fault { IfErr result IsBindFault }
-{
-    if wanted != 0 {
-        return Ok(wanted);
-    }
-    match listener.local_addr() {
-        Ok(addr) => Ok(addr.port()),
-        Err(why) => Err(ToolFault::Bind { why: Some(why) }),
-    }
-}
-
-// A listener at this port of 127.0.0.1, and the port that it has.
-pub(crate) fn listen<'a, R: Net<Listener = TcpListener, Stream = TcpStream>>(
-    rt: &R,
-    port: u16,
-) -> Result<(TcpListener, u16), ToolFault<'a>>
-    ensures port { IfOk result (λ r. IsPortFor port r.1) }
-    ensures fault { IfErr result IsBindFault }
-{
-    match TcpListener::bind(rt, SocketAddr::from((Ipv4Addr::LOCALHOST, port))) {
-        Ok(listener) => {
-            // std asks for 128; where the system doesn't let more wait, it stays so
-            let _same = libc::net::listen(listener.as_raw_fd(), BACKLOG);
-            let found = port_of(&listener, port)?;
-            Ok((listener, found))
-        }
-        Err(why) => Err(ToolFault::Bind { why: Some(why) }),
-    }
-}
-
 // By what the answers of so many sessions wait, where they may.
 pub(crate) fn lookout_of<'a, R: Net + Threads>(
     rt: &R,
@@ -220,9 +188,10 @@ fn serve_hub<'a, R, W: Sink>(
     writer: &mut W,
     hub: &mut Hub,
     keepers: &[Option<FileKeeper>],
-    port: u16,
+    entrance: Entrance,
     limits: Limits,
     verbose: bool,
+    watching: Option<&Watching>,
 ) -> Result<(), ToolFault<'a>>
 where
     R: Files<File = File>
@@ -239,7 +208,7 @@ where
     requires writes { W.failed_calls writer.old < 2 ^ 62 }
     ensures first { hub.new.first ≡ hub.old.first }
     ensures same { hub.new.cells ≡ hub.old.cells }
-    ensures told { OnOk result (TookOne (TellsPort port) (W.taken writer.old) (W.taken writer.new)) }
+    ensures told { OnOk result (TookOne (TellsPort entrance.port) (W.taken writer.old) (W.taken writer.new)) }
     ensures fault { IfErr result (IsHubFault hub.old.first (length keepers.now)) }
     ensures writes { W.failed_calls writer.new ≡ after_writes result (W.failed_calls writer.old) }
 {
@@ -248,8 +217,9 @@ where
         Some(deal) => hub.desk_of(alloc, deal)?,
         None => unreachable!(),
     };
-    let (listener, found) = listen(rt, port)?;
-    tell_port(alloc, writer, found)?;
+    let Listening { street, port } = entrance.open(rt)?;
+    open_door(rt, watching, &street, port)?;
+    tell_port(alloc, writer, port)?;
     let serving = Serving {
         rt,
         alloc,
@@ -257,7 +227,8 @@ where
         gate: &Unguarded,
         keepers,
     };
-    match serve_recorded(&serving, &listener, limits) {
+    let watcher = watcher_of(watching)?;
+    match serve_door(&serving, &street, limits, &watcher) {
         Ok(served) => tell_lost(rt, served.lost, verbose),
         // the first that was lost is the fault
         Err(ServeFault::NoneLeft) => {}
@@ -283,9 +254,10 @@ pub fn serve_to<'a, R, W: Sink>(
     writer: &mut W,
     hub: Hub,
     keepers: Vec<Option<FileKeeper>>,
-    port: u16,
+    entrance: Entrance,
     limits: Limits,
     verbose: bool,
+    watching: Option<&Watching>,
 ) -> Result<(), ToolFault<'a>>
 where
     R: Files<File = File>
@@ -303,15 +275,17 @@ where
     requires recorded { length keepers.items ≤ length hub.cells }
     requires writes { W.failed_calls writer.old < 2 ^ 62 }
     ensures told { OnOk result
-        (HasServed port hub.first keepers.items hub.cells (W.taken writer.old) (W.taken writer.new)) }
+        (HasServed entrance.port hub.first keepers.items hub.cells (W.taken writer.old) (W.taken writer.new)) }
     ensures fault { IfErr result (IsOutFault (length keepers.items) hub.first (length hub.cells)) }
     ensures lost { IfErr result
-        (IfLost (HasServedUpTo port hub.first keepers.items hub.cells (W.taken writer.old) (W.taken writer.new))) }
+        (IfLost (HasServedUpTo entrance.port hub.first keepers.items hub.cells (W.taken writer.old) (W.taken writer.new))) }
     ensures writes { W.failed_calls writer.new ≡ after_writes result (W.failed_calls writer.old) }
 {
     let first = hub.first();
     let mut hub = hub;
-    serve_hub(rt, writer, &mut hub, &keepers, port, limits, verbose)?;
+    serve_hub(
+        rt, writer, &mut hub, &keepers, entrance, limits, verbose, watching,
+    )?;
     let rooms = hub.close(rt.alloc())?;
     tell_sessions(rt.alloc(), writer, first, &keepers, rooms.as_slice())
 }
@@ -327,6 +301,10 @@ pub struct Service<'a> {
     /// How long an answer may wait where its line says so. `None`: no line may say so.
     pub wait: Option<Duration>,
     pub journal: Option<JournalFolder<'a>>,
+    /// Who watches it.
+    pub watched: Watched,
+    /// The descriptor of what listens at that port already, if something does.
+    pub listener: Option<u64>,
 }
 
 // The rooms of so many sessions, of which the first has that number, and what records them, if something does.
@@ -337,7 +315,8 @@ fn sessions_of<
         + OwnFiles
         + AllocGlobal
         + Eprint
-        + Net<Listener = TcpListener, Stream = TcpStream>,
+        + Net<Listener = TcpListener, Stream = TcpStream>
+        + Clock,
 >(
     rt: &R,
     opening: &Opening,
@@ -345,6 +324,7 @@ fn sessions_of<
     sessions: u64,
     journal: Option<JournalFolder<'a>>,
     verbose: bool,
+    watching: Option<&Watching>,
 ) -> Result<Sessions<'a>, ToolFault<'a>>
     requires number { first ≤ 2 ^ 63 }
     requires few { sessions ≤ 16 }
@@ -359,7 +339,9 @@ fn sessions_of<
         All (IsSessionsFault (option_map (λ j. j.folder.now) journal.entry) first sessions) r.refused.items) }
 {
     match journal {
-        Some(journal) => record_sessions(rt, opening, first, sessions, journal, verbose),
+        Some(journal) => {
+            record_sessions(rt, opening, first, sessions, journal, verbose, watching)
+        }
         None => Ok(Sessions {
             rooms: rooms_of(rt.alloc(), opening, sessions)?,
             keepers: Vec::new(rt.alloc()),
@@ -368,8 +350,14 @@ fn sessions_of<
     }
 }
 
-// Tells a fault on standard error, and why, where more is to be told.
-pub(crate) fn tell_fault<R: AllocGlobal + Eprint>(rt: &R, fault: ToolFault<'_>, verbose: bool) {
+// Tells a fault on standard error, and why, where more is to be told; who watches is told too.
+pub(crate) fn tell_fault<R: AllocGlobal + Eprint>(
+    rt: &R,
+    fault: ToolFault<'_>,
+    verbose: bool,
+    watching: Option<&Watching>,
+) {
+    tell_watched(rt, watching, &fault);
     let fault = if verbose {
         fault
     } else {
@@ -384,6 +372,7 @@ fn tell_refused<'a, R: AllocGlobal + Eprint>(
     refused: Vec<ToolFault<'a>>,
     sessions: u64,
     verbose: bool,
+    watching: Option<&Watching>,
 ) -> Result<(), ToolFault<'a>>
     ensures { IfErr result (λ fault. (i : ℕ) × (slice_get refused.entry.items i ≡ Some fault)) }
 {
@@ -394,7 +383,7 @@ fn tell_refused<'a, R: AllocGlobal + Eprint>(
         None
     };
     for fault in refused {
-        tell_fault(rt, fault, verbose);
+        tell_fault(rt, fault, verbose, watching);
     }
     match unserved {
         Some(fault) => Err(fault),
@@ -403,6 +392,69 @@ fn tell_refused<'a, R: AllocGlobal + Eprint>(
 }
 
 // Serves sessions of the protocol in the file at a port of 127.0.0.1. A fault says what the system says of it.
+fn serve_watched<'a, R>(
+    rt: &R,
+    file: ProtocolFile<'a>,
+    service: Service<'a>,
+    entrance: Entrance,
+    verbose: bool,
+    watching: Option<&Watching>,
+) -> Result<(), ToolFault<'a>>
+where
+    R: Files<File = File>
+        + OwnFiles
+        + AllocGlobal
+        + Print
+        + Eprint
+        + Net<Listener = TcpListener, Stream = TcpStream>
+        + Clock
+        + Threads
+        + Wait
+        + Sync
+        + 'static,
+    requires number { service.first ≤ 2 ^ 63 }
+    requires some { (1 ≤ service.sessions) × (service.sessions ≤ 16) }
+    ensures fault { IfErr result (IsServeFault file.entry (option_map (λ j. j.folder.now) service.entry.journal)
+        service.entry.first service.entry.sessions) }
+{
+    let alloc = rt.alloc();
+    let opening = load_file(rt, file)?;
+    let Service {
+        first,
+        sessions,
+        limits,
+        wait,
+        journal,
+        ..
+    } = service;
+    let began = Instant::now(rt);
+    let Sessions {
+        rooms,
+        keepers,
+        refused,
+    } = sessions_of(rt, &opening, first, sessions, journal, verbose, watching)?;
+    count_restored(rt, watching, began, rooms.as_slice());
+    tell_refused(rt, refused, sessions, verbose, watching)?;
+    tell_opened(rt, watching, first, rooms.as_slice(), keepers.as_slice());
+    let shares = Shares::of(alloc, limits.share, rooms.as_slice())?;
+    let waits = lookout_of(rt, alloc, sessions, wait)?.map(|lookout| Waits::new(lookout, 0));
+    let hub = Hub::of_restored(alloc, &opening.roles, first, rooms)?
+        .sharing(shares)
+        .waiting(waits);
+    let mut writer = OverWrite::new(io::writer(rt));
+    serve_to(
+        rt,
+        &mut writer,
+        hub,
+        keepers,
+        entrance,
+        limits,
+        verbose,
+        watching,
+    )
+}
+
+// The same; who watches is told of its fault, if it has one.
 fn serve_from<'a, R>(
     rt: &R,
     file: ProtocolFile<'a>,
@@ -427,28 +479,14 @@ where
         service.entry.first service.entry.sessions) }
 {
     let alloc = rt.alloc();
-    let opening = load_file(rt, file)?;
-    let Service {
-        port,
-        first,
-        sessions,
-        limits,
-        wait,
-        journal,
-    } = service;
-    let Sessions {
-        rooms,
-        keepers,
-        refused,
-    } = sessions_of(rt, &opening, first, sessions, journal, verbose)?;
-    tell_refused(rt, refused, sessions, verbose)?;
-    let shares = Shares::of(alloc, limits.share, rooms.as_slice())?;
-    let waits = lookout_of(rt, alloc, sessions, wait)?.map(|lookout| Waits::new(lookout, 0));
-    let hub = Hub::of_restored(alloc, &opening.roles, first, rooms)?
-        .sharing(shares)
-        .waiting(waits);
-    let mut writer = OverWrite::new(io::writer(rt));
-    serve_to(rt, &mut writer, hub, keepers, port, limits, verbose)
+    let watching = watch_of(alloc, service.watched)?;
+    let watching = watching.as_ref();
+    let metrics = service.watched.metrics;
+    let served = match enter(rt, alloc, service.port, service.listener, watching, metrics) {
+        Ok(entrance) => serve_watched(rt, file, service, entrance, verbose, watching),
+        Err(fault) => Err(fault),
+    };
+    noticed(rt, watching, served)
 }
 
 /// Serves sessions of the protocol in the file at a port of 127.0.0.1. Where more is to be told (`verbose`), a fault says

@@ -44,7 +44,7 @@ const ORDERS: &[Words] = &[
             "--sessions=2",
             "--endless",
         ],
-        "Serve { file: ProtocolFile { name: \"a.protocol\", merging: Plain }, port: 0, sessions: 2, first: 1, connections: None, idle: None, wait: None, share: 100, journal: None, verbose: false }",
+        "Serve { file: ProtocolFile { name: \"a.protocol\", merging: Plain }, port: 0, sessions: 2, first: 1, connections: None, idle: None, wait: None, share: 100, journal: None, watched: Watched { log: None, metrics: None, drain: false }, listener: None, verbose: false }",
     ),
     Words(
         &[
@@ -56,7 +56,7 @@ const ORDERS: &[Words] = &[
             "--connections=3",
             "-v",
         ],
-        "Serve { file: ProtocolFile { name: \"a.protocol\", merging: Plain }, port: 0, sessions: 2, first: 1, connections: Some(3), idle: None, wait: None, share: 100, journal: None, verbose: true }",
+        "Serve { file: ProtocolFile { name: \"a.protocol\", merging: Plain }, port: 0, sessions: 2, first: 1, connections: Some(3), idle: None, wait: None, share: 100, journal: None, watched: Watched { log: None, metrics: None, drain: false }, listener: None, verbose: true }",
     ),
     Words(
         &[
@@ -129,7 +129,7 @@ const ORDERS: &[Words] = &[
     // a host: how many sessions are open, and, where they are recorded, for how long
     Words(
         &["mps_tool", "host", "a.protocol", "--port=0"],
-        "Host { file: ProtocolFile { name: \"a.protocol\", merging: Plain }, port: 0, open: 10000, keep: 10, idle: None, wait: None, share: 50, journal: None, verbose: false }",
+        "Host { file: ProtocolFile { name: \"a.protocol\", merging: Plain }, port: 0, open: 10000, keep: 10, idle: None, wait: None, share: 50, journal: None, watched: Watched { log: None, metrics: None, drain: false }, listener: None, verbose: false }",
     ),
     Words(
         &[
@@ -201,6 +201,62 @@ const ORDERS: &[Words] = &[
             "--wait=1",
         ],
         "Serve { file: ProtocolFile { name: \"a.protocol\", merging: Plain }, port: 0, sessions: 2, first: 1, connections: None, idle: None, wait: Some(1), share: 100, ",
+    ),
+    // who watches a server, and which socket it is given
+    Words(
+        &["mps_tool", "host", "a.protocol", "--port=0", "--log"],
+        "Host { file: ProtocolFile { name: \"a.protocol\", merging: Plain }, port: 0, open: 10000, keep: 10, idle: None, wait: None, share: 50, journal: None, watched: Watched { log: Some(Events), metrics: None, drain: false }, listener: None, ",
+    ),
+    Words(
+        &[
+            "mps_tool",
+            "host",
+            "a.protocol",
+            "--port=0",
+            "--log=lines",
+            "--metrics=65535",
+            "--drain",
+            "--listener=3",
+        ],
+        "Host { file: ProtocolFile { name: \"a.protocol\", merging: Plain }, port: 0, open: 10000, keep: 10, idle: None, wait: None, share: 50, journal: None, watched: Watched { log: Some(Lines), metrics: Some(65535), drain: true }, listener: Some(3), ",
+    ),
+    Words(
+        &[
+            "mps_tool",
+            "serve",
+            "a.protocol",
+            "--port=0",
+            "--sessions=2",
+            "--endless",
+            "--log",
+            "lines",
+            "--metrics=1",
+            "--drain",
+            "--listener=1023",
+        ],
+        "Serve { file: ProtocolFile { name: \"a.protocol\", merging: Plain }, port: 0, sessions: 2, first: 1, connections: None, idle: None, wait: None, share: 100, journal: None, watched: Watched { log: Some(Lines), metrics: Some(1), drain: true }, listener: Some(1023), ",
+    ),
+    Words(
+        &["mps_tool", "host", "a.protocol", "--port=0", "--log=all"],
+        "2",
+    ),
+    Words(
+        &["mps_tool", "host", "a.protocol", "--port=0", "--metrics=0"],
+        "2",
+    ),
+    Words(
+        &["mps_tool", "host", "a.protocol", "--port=0", "--listener=2"],
+        "2",
+    ),
+    Words(
+        &[
+            "mps_tool",
+            "host",
+            "a.protocol",
+            "--port=0",
+            "--listener=1024",
+        ],
+        "2",
     ),
     // how branches are merged
     Words(

@@ -3,7 +3,7 @@
 use mps_dev::{Pieces, Short};
 use mps_hub::{Hub, Limits};
 use mps_open::Merging;
-use mps_program::{load_opening, rooms_of, serve_to};
+use mps_program::{Entrance, load_opening, rooms_of, serve_to};
 use std::alloc::Global;
 use std::fs::File;
 use std::io::{Read, Write};
@@ -63,7 +63,16 @@ where
     let Ok(hub) = Hub::of_restored(alloc, &opening.roles, first, rooms) else {
         return Err("no hub".into());
     };
-    match serve_to(rt, &mut writer, hub, Vec::new(alloc), port, ONE, false) {
+    match serve_to(
+        rt,
+        &mut writer,
+        hub,
+        Vec::new(alloc),
+        Entrance::at(port),
+        ONE,
+        false,
+        None,
+    ) {
         Ok(()) => Ok(Vec::from_slice(alloc, writer.bytes())?),
         Err(_) => Err("a fault".into()),
     }

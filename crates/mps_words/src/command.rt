@@ -1,6 +1,7 @@
 //! What the program can do.
 
 use mps_local::Merging;
+use mps_watch::Detail;
 
 /// The file with the protocol, and how branches are merged for roles that take no part in a choice.
 #[derive(Clone, Copy, Debug, PartialEq, Eq)]
@@ -35,6 +36,9 @@ pub enum Order<'a> {
         share: u64,
         /// Where the sessions are kept, if they are.
         journal: Option<JournalFolder<'a>>,
+        watched: Watched,
+        /// The descriptor of what listens already, if something does.
+        listener: Option<u64>,
         /// Whether more is told of what went wrong.
         verbose: bool,
     },
@@ -54,9 +58,23 @@ pub enum Order<'a> {
         share: u64,
         /// Where the sessions are kept, if they are.
         journal: Option<JournalFolder<'a>>,
+        watched: Watched,
+        /// The descriptor of what listens already, if something does.
+        listener: Option<u64>,
         /// Whether more is told of what went wrong.
         verbose: bool,
     },
+}
+
+/// How a server is watched.
+#[derive(Clone, Copy, Debug, PartialEq, Eq)]
+pub struct Watched {
+    /// How much is told of what befalls it, if something is.
+    pub log: Option<Detail>,
+    /// The port at which its counts are told, if they are.
+    pub metrics: Option<u16>,
+    /// Whether it ends once its standard input has.
+    pub drain: bool,
 }
 
 /// Where sessions are kept.

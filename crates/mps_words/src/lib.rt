@@ -5,7 +5,8 @@ mod command;
 mod faults;
 mod words;
 
-pub use command::{JournalFolder, Order, ProtocolFile, Task};
+pub use command::{JournalFolder, Order, ProtocolFile, Task, Watched};
 pub use faults::UseFault;
 pub use mps_local::Merging;
+pub use mps_watch::Detail;
 pub use words::{order, words_of};

@@ -1,16 +1,17 @@
 //! The words that the program is called with.
 
 ghost use Rattle.std.specs.Prelude.{◌≤◌, IfErr, IfOk, IfSome};
-ghost use Rattle.mps_words.specs.Orders.{IsInRange};
+ghost use Rattle.mps_words.specs.Orders.{IsInRange, IsWatchedInRange};
 ghost use Rattle.mps_words.specs.Uses.{Says, no_text};
 ghost use Rattle.mps_words.specs.Private.Uses.{missing};
 
-use crate::command::{JournalFolder, Order, ProtocolFile, Task};
+use crate::command::{JournalFolder, Order, ProtocolFile, Task, Watched};
 use crate::faults::{UseFault, usage};
 use clap::builder::ValueParser;
 use clap::error::ErrorKind;
 use clap::{Arg, ArgAction, ArgGroup, ArgMatches, Command, Error};
 use mps_local::Merging;
+use mps_watch::Detail;
 use std::alloc::{AllocError, Global};
 use std::rt::Env;
 use std::{env, io};
@@ -60,6 +61,8 @@ enum Takes {
     Number(Range),
     // one of these words
     OneOf(&'static [&'static str]),
+    // the same, or no word, which stands for that one
+    OneOfOrNone(&'static str, &'static [&'static str]),
 }
 
 // A word that a command needs, or an option: what it stands for, what the help says of it, and what it may be.
@@ -233,6 +236,55 @@ const WAIT: Word = Word {
     takes: Takes::Number(WAIT_SECONDS),
 };
 
+// The words for how much is told.
+const EVENTS: &str = "events";
+
+const LINES: &str = "lines";
+
+// What is told of a server.
+const LOG: Word = Word {
+    name: "log",
+    help: "Tells on standard error what befalls the server, a line for each event; with lines each line and answer too",
+    given: Given::Sometimes,
+    takes: Takes::OneOfOrNone(EVENTS, &[EVENTS, LINES]),
+};
+
+// The ports at which counts may be told.
+const COUNT_PORTS: Range = Range {
+    least: 1,
+    most: 65_535,
+};
+
+// Where counts are told.
+const METRICS: Word = Word {
+    name: "metrics",
+    help: "Tells its counts at this port of 127.0.0.1, 1 to 65535, by HTTP: /metrics for Prometheus, /health",
+    given: Given::Sometimes,
+    takes: Takes::Number(COUNT_PORTS),
+};
+
+// Whether a server ends with its input.
+const DRAIN: Word = Word {
+    name: "drain",
+    help: "Ends the server once its standard input ends: lines that run are answered, no more are read",
+    given: Given::Alone,
+    takes: Takes::Text,
+};
+
+// The descriptors that a listening socket may have; lower ones are the standard streams.
+const DESCRIPTORS: Range = Range {
+    least: 3,
+    most: 1_023,
+};
+
+// What listens already.
+const LISTENER: Word = Word {
+    name: "listener",
+    help: "Takes connections from the socket that it was given as this descriptor, 3 to 1023, as systemd gives it; it has to be bound to that port of a loopback address",
+    given: Given::Sometimes,
+    takes: Takes::Number(DESCRIPTORS),
+};
+
 // How many sessions are open at once.
 const OPEN_COUNTS: Range = Range {
     least: 1,
@@ -344,6 +396,10 @@ const FORMS: &[Form] = &[
             WAIT,
             SHARE,
             MERGING,
+            LOG,
+            METRICS,
+            DRAIN,
+            LISTENER,
         ],
         some_of: &["connections", "endless", "journal"],
     },
@@ -361,6 +417,10 @@ const FORMS: &[Form] = &[
             WAIT,
             SHARE_OF_HOST,
             MERGING,
+            LOG,
+            METRICS,
+            DRAIN,
+            LISTENER,
         ],
         some_of: &[],
     },
@@ -379,6 +439,10 @@ fn argument<'a>(alloc: Global, word: &Word) -> Arg<'a> {
         Takes::Text => argument,
         Takes::Number(range) => ranged(argument, range),
         Takes::OneOf(words) => argument.value_parser(ValueParser::Names(words)),
+        Takes::OneOfOrNone(word, words) => argument
+            .value_parser(ValueParser::Names(words))
+            .num_args(0..=1)
+            .default_missing_value(word),
     };
     match word.given {
         Given::Always => argument.required(true),
@@ -486,6 +550,26 @@ fn journal_in<'a>(found: &ArgMatches<'a>, strict: bool) -> Option<JournalFolder<
     })
 }
 
+// How a server is watched, by `--log`, `--metrics` and `--drain`. The port is below 2^16 by its range.
+fn watched_in<'a>(found: &ArgMatches<'a>) -> Option<Watched>
+    ensures { IfSome result IsWatchedInRange }
+{
+    let log = match found.get_str("log") {
+        Some(LINES) => Some(Detail::Lines),
+        Some(_) => Some(Detail::Events),
+        None => None,
+    };
+    let metrics = match bound_in(found, "metrics", COUNT_PORTS)? {
+        Some(port) => Some(port as u16),
+        None => None,
+    };
+    Some(Watched {
+        log,
+        metrics,
+        drain: found.get_flag("drain"),
+    })
+}
+
 // The file with the protocol, and the merging of `--merging`, which is plain where it isn't given; none where a word is
 // missing, which clap has seen to.
 fn file_in<'a>(found: &ArgMatches<'a>) -> Option<ProtocolFile<'a>> {
@@ -509,6 +593,8 @@ fn serve_in<'a>(file: ProtocolFile<'a>, found: &ArgMatches<'a>) -> Option<Order<
     let wait = bound_in(found, "wait", WAIT_SECONDS)?;
     let share = bound_in(found, "share", SHARES)?.unwrap_or(SERVED_SHARE);
     let journal = journal_in(found, found.get_flag("strict"));
+    let watched = watched_in(found)?;
+    let listener = bound_in(found, "listener", DESCRIPTORS)?;
     let verbose = found.get_flag(VERBOSE);
     Some(Order::Serve {
         file,
@@ -520,6 +606,8 @@ fn serve_in<'a>(file: ProtocolFile<'a>, found: &ArgMatches<'a>) -> Option<Order<
         wait,
         share,
         journal,
+        watched,
+        listener,
         verbose,
     })
 }
@@ -535,6 +623,8 @@ fn host_in<'a>(file: ProtocolFile<'a>, found: &ArgMatches<'a>) -> Option<Order<'
     let wait = bound_in(found, "wait", WAIT_SECONDS)?;
     let share = bound_in(found, "share", SHARES)?.unwrap_or(HOSTED_SHARE);
     let journal = journal_in(found, false);
+    let watched = watched_in(found)?;
+    let listener = bound_in(found, "listener", DESCRIPTORS)?;
     let verbose = found.get_flag(VERBOSE);
     Some(Order::Host {
         file,
@@ -545,6 +635,8 @@ fn host_in<'a>(file: ProtocolFile<'a>, found: &ArgMatches<'a>) -> Option<Order<'
         wait,
         share,
         journal,
+        watched,
+        listener,
         verbose,
     })
 }

@@ -1,10 +1,10 @@
--- `serve_from` meets its contract, by the lemmas of Causes.
+-- `serve_watched` meets its contract, by the lemmas of Causes.
 use Rattle.std.proofs.Common.{List, ap, length, ◌∙◌}
 use Rattle.std.specs.Option.{option_map}
 use Rattle.mps_cell.specs.Cells.{Opened}
 use Rattle.mps_program.specs.Served.{IsServeFault}
 use Rattle.mps_program.proofs.Causes.{server_fails, session_fails, told}
-use Rattle.mps_program.proofs.serving.serve_from.Goals as goal
+use Rattle.mps_program.proofs.serving.serve_watched.Goals as goal
 
 pub returns : goal.returns
 returns g c = record { fault = server_fails c.serve_to.result c.args.file _ _ _ _ _ _ c.in_ok-rooms.ensures.keepers (c.waiting-hub.ensures.first ∙ c.sharing.ensures.first ∙ c.in_ok-of_restored.ensures.first) (ap (λ (l : List Opened). length l) (c.waiting-hub.ensures.cells ∙ c.sharing.ensures.cells) ∙ c.in_ok-of_restored.ensures.cells.count ∙ c.in_ok-rooms.ensures.rooms) c.serve_to.ensures.fault }

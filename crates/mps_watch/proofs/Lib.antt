@@ -1,0 +1,3 @@
+-- The lemmas of mps_watch.
+mod Shown
+mod Sizes

@@ -1,0 +1,162 @@
+//! What goes through one connection, as it is watched.
+
+use crate::counts::word_of;
+use crate::watch::{Ended, Watch};
+use mps_base::read_number;
+use std::alloc::Global;
+use std::str;
+
+// How many bytes of a line, or of an answer, are kept to be told.
+const MOST: usize = 512;
+
+/// Which way it goes.
+#[derive(Clone, Copy, Debug, PartialEq, Eq)]
+pub enum Side {
+    /// The lines of the client.
+    Lines,
+    /// The answers to them.
+    Answers,
+}
+
+// The session that was joined, and the role's name.
+#[derive(Drop)]
+struct Joined {
+    session: u64,
+    role: Vec<u8>,
+}
+
+impl Joined {
+    // The role's name, which is ASCII.
+    fn role(&self) -> &str {
+        str::from_utf8(self.role.as_slice()).unwrap_or("?")
+    }
+}
+
+/// One side of a connection.
+#[derive(Drop)]
+pub struct Ear<'w, R> {
+    rt: &'w R,
+    watch: &'w Watch,
+    connection: u64,
+    side: Side,
+    // the front of the line that goes through
+    line: Vec<u8>,
+    // whether the first went through
+    begun: bool,
+    // the client's first line, where it is known before its answer
+    asked: Vec<u8>,
+    joined: Option<Joined>,
+}
+
+impl<'w, R: Eprint> Ear<'w, R> {
+    /// Of the connection of that number, of which nothing was heard yet.
+    pub fn new(rt: &'w R, watch: &'w Watch, connection: u64, side: Side) -> Ear<'w, R> {
+        Ear {
+            rt,
+            watch,
+            connection,
+            side,
+            line: Vec::new(watch.alloc),
+            begun: false,
+            asked: Vec::new(watch.alloc),
+            joined: None,
+        }
+    }
+
+    /// The client's first line is in front of these bytes, if there are any.
+    pub fn asked(&mut self, bytes: &[u8]) {
+        let end = bytes
+            .iter()
+            .position(|byte| *byte == b'\n')
+            .unwrap_or(bytes.len());
+        let line = bytes.get(..end.min(MOST)).unwrap_or(bytes);
+        let _kept = self.asked.extend_from_slice(line);
+    }
+
+    /// These bytes went through, after those before them.
+    pub fn hear(&mut self, bytes: &[u8]) {
+        for (at, piece) in bytes.split(|byte| *byte == b'\n').enumerate() {
+            if at > 0 {
+                self.end_line();
+            }
+            self.keep(piece);
+        }
+    }
+
+    // Keeps a piece of a line, as far as it is told. Where there is no memory for it, less is.
+    fn keep(&mut self, piece: &[u8]) {
+        let room = MOST.saturating_sub(self.line.len());
+        let kept = piece.get(..room).unwrap_or(piece);
+        let _kept = self.line.extend_from_slice(kept);
+    }
+
+    // A whole line went through.
+    fn end_line(&mut self) {
+        match self.side {
+            Side::Answers if !self.begun => self.answer_first(),
+            Side::Answers => self.watch.counts.lines.add(word_of(self.line.as_slice())),
+            Side::Lines => {}
+        }
+        if self.begun && self.watch.tells_lines() {
+            let event = match self.side {
+                Side::Lines => "line",
+                Side::Answers => "answer",
+            };
+            let line = self.line.as_slice();
+            self.watch.line(self.rt, event, self.connection, line);
+        }
+        self.begun = true;
+        self.line.clear();
+    }
+
+    // The first line was answered.
+    fn answer_first(&mut self) {
+        let line = self.line.as_slice();
+        self.watch.counts.joins.add(word_of(line));
+        self.joined = joined_by(self.watch.alloc, line);
+        match &self.joined {
+            Some(joined) => self
+                .watch
+                .joined(self.rt, self.connection, joined.session, joined.role()),
+            None => {
+                let asked = self.asked.as_slice();
+                self.watch.refused(self.rt, self.connection, asked, line);
+            }
+        }
+    }
+
+    /// The session that was joined, if one was.
+    pub fn session(&self) -> Option<u64> {
+        match &self.joined {
+            Some(joined) => Some(joined.session),
+            None => None,
+        }
+    }
+
+    /// The connection has ended.
+    pub fn end(self, why: Ended) {
+        self.watch.counts.gone.add(1);
+        match &self.joined {
+            Some(joined) => self.watch.parted(
+                self.rt,
+                self.connection,
+                joined.session,
+                joined.role(),
+                why,
+            ),
+            None => self.watch.went(self.rt, self.connection, why),
+        }
+    }
+}
+
+// Whom an answer `joined SESSION ROLE` lets in.
+fn joined_by(alloc: Global, answer: &[u8]) -> Option<Joined> {
+    let told = answer.strip_prefix(b"joined ")?;
+    let end = told.iter().position(|byte| *byte == b' ')?;
+    let mut role = Vec::new(alloc);
+    role.extend_from_slice(told.get(end + 1..)?).ok()?;
+    Some(Joined {
+        session: read_number(&told[..end])?,
+        role,
+    })
+}
