@@ -2,6 +2,7 @@
 
 use crate::counts::word_of;
 use crate::watch::{Ended, Watch};
+use memchr::memchr_iter;
 use mps_base::read_number;
 use std::alloc::Global;
 use std::str;
@@ -65,6 +66,9 @@ impl<'w, R: Eprint> Ear<'w, R> {
 
     /// The client's first line is in front of these bytes, if there are any.
     pub fn asked(&mut self, bytes: &[u8]) {
+        if !self.watch.tells() {
+            return;
+        }
         let end = bytes
             .iter()
             .position(|byte| *byte == b'\n')
@@ -75,12 +79,13 @@ impl<'w, R: Eprint> Ear<'w, R> {
 
     /// These bytes went through, after those before them.
     pub fn hear(&mut self, bytes: &[u8]) {
-        for (at, piece) in bytes.split(|byte| *byte == b'\n').enumerate() {
-            if at > 0 {
-                self.end_line();
-            }
-            self.keep(piece);
+        let mut begin = 0;
+        for end in memchr_iter(b'\n', bytes) {
+            self.keep(bytes.get(begin..end).unwrap_or(b""));
+            self.end_line();
+            begin = end.saturating_add(1);
         }
+        self.keep(bytes.get(begin..).unwrap_or(b""));
     }
 
     // Keeps a piece of a line, as far as it is told. Where there is no memory for it, less is.
@@ -123,6 +128,7 @@ impl<'w, R: Eprint> Ear<'w, R> {
                 self.watch.refused(self.rt, self.connection, asked, line);
             }
         }
+        self.asked = Vec::new(self.watch.alloc);
     }
 
     /// The session that was joined, if one was.

@@ -91,7 +91,7 @@ impl Watch {
     }
 
     // Whether events are told.
-    fn tells(&self) -> bool {
+    pub(crate) fn tells(&self) -> bool {
         self.detail.is_some()
     }
 
