@@ -10,6 +10,8 @@ pub mod Lists
 pub mod Losing
 pub mod Refusing
 pub mod Tracing
+pub mod Forms
+pub mod Opening
 pub mod Consistency
 pub mod Keeping
 pub mod Faithful

@@ -2,9 +2,10 @@
 use Rattle.std.proofs.Common.{◌≡◌, ℕ, zero, suc, ◌+◌, true, List, [], ◌∷◌, ◌++◌, length, map, Option, Some, refl, sym, subst, arith, length-append}
 use Rattle.std.specs.Prelude.{nat_lt, slice_get, IsSome}
 use Rattle.std.specs.List.{AllByRecursion}
-use Rattle.std.specs.Option.{option_and_then}
+use Rattle.std.specs.Option.{option_and_then, option_map, option_map_or}
 use Rattle.std.proofs.lemmas.Bool.{eqb-true}
 use Rattle.std.proofs.lemmas.List.{map-append}
+use Rattle.std.proofs.lemmas.Option.{slice_get-map}
 use Rattle.mps_base.specs.declared.action.Message.{Message}
 use Rattle.mps_base.specs.declared.action.Step.{Step}
 use Rattle.mps_command.specs.Acts.{act_of}
@@ -23,7 +24,8 @@ use Rattle.mps_session.specs.declared.gist.Gist.TheVariants as gists
 use Rattle.mps_room.specs.Journal.{undone_by, is_accepted}
 use Rattle.mps_room.specs.Private.Forms.{narrow_answer, narrow, source_place}
 use Rattle.mps_room.specs.Private.Owners.{owners_after}
-use Rattle.mps_room.specs.Private.Narrow.{Narrow, given_in, message_at, whole, journal_of, place_of, given_at, IsFound, IsGiven, AreFound}
+use Rattle.mps_room.specs.Private.Heard.{undone_at}
+use Rattle.mps_room.specs.Private.Narrow.{Narrow, given_in, message_at, taken_at, with_message, whole, journal_of, place_of, given_at, IsFound, IsGiven, AreFound}
 use Rattle.mps_room.specs.declared.entry.Entry.{Entry}
 use Rattle.mps_room.proofs.Hearing.{all_along, all_push, found, serve_history, step_joined}
 use Rattle.mps_room.proofs.Owning.{none_stepped}
@@ -127,3 +129,10 @@ module _ (types : List LocalType) (st : State) (p : ℕ) (change : Change) (js :
 
   pub traced_as : (a : Answer) → a ≡ (serve types st p change).0 → is_accepted a ≡ true → (ps os : List ℕ) (h : List Step) (l : List Narrow) → ps ≡ owners_after places (length js) a → os ≡ owners_after owners p a → h ≡ (serve types st p change).1.history → l ≡ one_more → AreFound ps os h l
   traced_as a is kept ps os h l placed owned after more = grind (arith, traced_with a is kept)
+
+-- what an entry took back is told without its message
+taken_alike : (got : Option Message) (a : Answer) → undone_by (with_message got a) ≡ undone_by a
+taken_alike got a = grind arith
+
+pub undone_alike : (js : List Narrow) (k : ℕ) → undone_at (journal_of js) k ≡ taken_at js k
+undone_alike js k = grind (arith, slice_get-map, taken_alike)

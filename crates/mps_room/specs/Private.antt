@@ -4,4 +4,3 @@ pub mod Narrow
 pub mod Heard
 pub mod Rooms
 pub mod Forms
-pub mod Names

@@ -11,7 +11,7 @@ ghost use Rattle.mps_room.specs.Private.Owners.{owns, owners_after, is_step, Has
 ghost use Rattle.mps_room.specs.Private.Rooms.{IsLack};
 
 use crate::heard::Heard;
-use crate::narrow_entry::NarrowEntry;
+use crate::journal::Journal;
 use crate::room::{MAX_ENTRIES, Room};
 use crate::steps::Steps;
 use mps_base::{Role, StepId};
@@ -24,7 +24,7 @@ use std::slice;
 // `change`, so that each `?` leads to one place, where the session's own refusal comes first.
 #[inline(always)]
 fn reserve_entry(
-    journal: &mut Vec<NarrowEntry>,
+    journal: &mut Journal,
     steps: &mut Steps,
     heard: &mut Heard,
     role: Role,
@@ -32,27 +32,31 @@ fn reserve_entry(
 ) -> Result<(), Refusal>
     requires hearers { heard.old.count ≤ 8 }
     requires lists { length heard.old.lists ≡ 8 }
-    ensures journal { journal.new.items ≡ journal.old.items }
+    ensures journal { journal.new.entries ≡ journal.old.entries }
     ensures owners { steps.new.owners.items ≡ steps.old.owners.items }
     ensures places { steps.new.places.items ≡ steps.old.places.items }
     ensures hearers { heard.new.count ≡ heard.old.count }
     ensures lists { length heard.new.lists ≡ 8 }
     ensures heard { map (λ l. l.items) heard.new.lists ≡ map (λ l. l.items) heard.old.lists }
-    ensures few { OnOk result (length journal.old.items < most_entries) }
-    ensures space { OnOk result (vec_len journal.new + 1 ≤ vec_capacity journal.new) }
+    ensures few { OnOk result (length journal.old.entries < most_entries) }
+    ensures space { OnOk result (journal.new.has_space ≡ true) }
+    ensures list_space { OnOk result (takes_others command.now ≡ true → journal.new.has_list_space ≡ true) }
     ensures step_space { OnOk result (is_step command.now ≡ true → HasSpace steps.new) }
     ensures heard_space { OnOk result
         (takes_others command.now ≡ true → (k : ℕ) (d : _) → k < heard.new.count → k ≢ role
         → vec_len (slice_index_or heard.new.lists k d) < vec_capacity (slice_index_or heard.new.lists k d)) }
-    ensures lack { IfErr result (IsLack (length journal.old.items)) }
+    ensures lack { IfErr result (IsLack (length journal.old.entries)) }
 {
     if journal.len() >= MAX_ENTRIES {
         return Err(Refusal::Full);
     }
-    journal.reserve(1)?;
+    journal.reserve_one()?;
     match command {
         Command::Forward(_) => steps.reserve_one()?,
-        Command::Rollback(_) | Command::Back(_) => heard.reserve(role)?,
+        Command::Rollback(_) | Command::Back(_) => {
+            journal.reserve_list()?;
+            heard.reserve(role)?;
+        }
         // an undo takes back a step of the role's own, of which nobody hears
         _ => {}
     }
@@ -100,33 +104,34 @@ fn note(
 // fail. Apart from `change`, whose proof goes on from its clauses.
 #[inline(always)]
 fn keep(
-    journal: &mut Vec<NarrowEntry>,
+    journal: &mut Journal,
     steps: &mut Steps,
     heard: &mut Heard,
     role: Role,
-    command: Command,
+    command: &Command,
     gist: Gist,
 )
-    requires fits { Fits command gist (source_place steps.old.places.items gist) }
-    requires few { length journal.old.items < most_entries }
-    requires space { vec_len journal.old + 1 ≤ vec_capacity journal.old }
-    requires step_space { is_step command ≡ true → HasSpace steps.old }
+    requires fits { Fits command.now gist (source_place steps.old.places.items gist) }
+    requires few { length journal.old.entries < most_entries }
+    requires space { journal.old.has_space ≡ true }
+    requires list_space { takes_others command.now ≡ true → journal.old.has_list_space ≡ true }
+    requires step_space { is_step command.now ≡ true → HasSpace steps.old }
     requires hearers { heard.old.count ≤ 8 }
     requires lists { length heard.old.lists ≡ 8 }
-    requires heard_space { takes_others command ≡ true → (k : ℕ) (d : _) → k < heard.old.count → k ≢ role
+    requires heard_space { takes_others command.now ≡ true → (k : ℕ) (d : _) → k < heard.old.count → k ≢ role
         → vec_len (slice_index_or heard.old.lists k d) < vec_capacity (slice_index_or heard.old.lists k d) }
-    ensures journal { journal.new.items ≡ journal.old.items
-        ++ narrow role command gist (source_place steps.old.places.items gist) ∷ [] }
+    ensures journal { journal.new.entries ≡ journal.old.entries
+        ++ narrow role command.now gist (source_place steps.old.places.items gist) ∷ [] }
     ensures owners { steps.new.owners.items ≡ owners_after steps.old.owners.items role (narrow_answer gist) }
     ensures places { steps.new.places.items
-        ≡ owners_after steps.old.places.items (length journal.old.items) (narrow_answer gist) }
+        ≡ owners_after steps.old.places.items (length journal.old.entries) (narrow_answer gist) }
     ensures hearers { heard.new.count ≡ heard.old.count }
     ensures lists { length heard.new.lists ≡ 8 }
-    ensures heard { takes_others command ≡ true → (p : ℕ) (d : _) → p < heard.old.count
+    ensures heard { takes_others command.now ≡ true → (p : ℕ) (d : _) → p < heard.old.count
         → (slice_index_or heard.new.lists p d).items
         ≡ with_place (hears (owns steps.old.owners.items p) p role (undone_by (narrow_answer gist)))
-        (length journal.old.items) (slice_index_or heard.old.lists p d).items }
-    ensures unheard { takes_others command ≡ false → heard.new.lists ≡ heard.old.lists }
+        (length journal.old.entries) (slice_index_or heard.old.lists p d).items }
+    ensures unheard { takes_others command.now ≡ false → heard.new.lists ≡ heard.old.lists }
 {
     // a journal has at most 100,000 entries
     let place = journal.len() as u32;
@@ -134,8 +139,8 @@ fn keep(
         Gist::Stepped { source, .. } => steps.place_of(*source),
         Gist::Undid(_) | Gist::TookBack(_) => None,
     };
-    note(steps, heard, role, &command, &gist, place);
-    NarrowEntry::push(journal, role, command, gist, sent_at);
+    note(steps, heard, role, command, &gist, place);
+    journal.push(role, command, gist, sent_at);
 }
 
 // The numbers of the steps that were taken back, by the gist of an answer; none for a new step.
@@ -186,7 +191,7 @@ impl Room {
                     &mut self.steps,
                     &mut self.heard,
                     role,
-                    command,
+                    &command,
                     gist,
                 );
                 answer

@@ -6,7 +6,7 @@ ghost use Rattle.mps_room.specs.Private.Heard.{places, undone_at};
 ghost use Rattle.mps_room.specs.Private.Owners.{owns};
 ghost use Rattle.mps_room.specs.Private.Narrow.{journal_of};
 
-use crate::narrow_entry::NarrowEntry;
+use crate::journal::Journal;
 use crate::steps::Steps;
 use mps_base::{Role, StepId};
 use std::alloc::{AllocError, Global};
@@ -16,15 +16,15 @@ use std::alloc::{AllocError, Global};
 /// memory.
 pub(crate) fn news(
     alloc: Global,
-    journal: &[NarrowEntry],
+    journal: &Journal,
     steps: &Steps,
     heard: &[u32],
     role: Role,
     known: u64,
 ) -> Result<Vec<StepId>, AllocError>
-    requires owned { (p n : ℕ) → is_own (journal_of journal.now) p n ≡ owns steps.now.owners.items p n }
-    requires heard { heard.now ≡ places (journal_of journal.now) role }
-    ensures { IfOk result (λ ids. ids.items ≡ news (journal_of journal.now) role known) }
+    requires owned { (p n : ℕ) → is_own (journal_of journal.now.entries) p n ≡ owns steps.now.owners.items p n }
+    requires heard { heard.now ≡ places (journal_of journal.now.entries) role }
+    ensures { IfOk result (λ ids. ids.items ≡ news (journal_of journal.now.entries) role known) }
 {
     let mut ids = Vec::new(alloc);
     let told = after(heard, known);
@@ -43,15 +43,13 @@ fn after(places: &[u32], known: u64) -> &[u32]
     &places[first..]
 }
 
-// The numbers of the steps that the entry at this place took back, borrowed; none where it is a new step, or there is
-// no such entry.
-fn undone_at(journal: &[NarrowEntry], place: u32) -> &[StepId]
-    ensures { result.now ≡ undone_at (journal_of journal.now) place }
+// The numbers of the steps that the entry at this place took back, borrowed; none where it is a new step, or there is no such
+// entry. Apart, since the journal doesn't know the messages that receipts took.
+#[tactic(auto, using(crate::proofs::Tracing::undone_alike))]
+fn undone_at(journal: &Journal, place: u32) -> &[StepId]
+    ensures { result.now ≡ undone_at (journal_of journal.now.entries) place }
 {
-    match journal.get(place as usize) {
-        Some(entry) => entry.undone(),
-        None => &[],
-    }
+    journal.undone_at(place)
 }
 
 // Appends those of the numbers that are of the role's steps. When out of memory some may be appended; the list is

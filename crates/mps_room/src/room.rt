@@ -10,7 +10,7 @@ ghost use Rattle.serde_json.specs.Written.{compact_text};
 
 use crate::entry::Entry;
 use crate::heard::Heard;
-use crate::narrow_entry::NarrowEntry;
+use crate::journal::Journal;
 use crate::news::news;
 use crate::shown::{shown_text, stand_text};
 use crate::steps::Steps;
@@ -30,7 +30,7 @@ pub const MAX_ENTRIES: usize = 100_000;
 pub struct Room {
     pub(crate) names: Roles,
     pub(crate) session: Session,
-    pub(crate) journal: Vec<NarrowEntry>,
+    pub(crate) journal: Journal,
     pub(crate) steps: Steps,
     // what each role hears of
     pub(crate) heard: Heard,
@@ -49,10 +49,10 @@ impl Model for Room {
 
     ghost coded = { Prim.hlevel (codes, coded_local) };
 
-    ghost view = { λ r. record { names = r.names; types = r.session.types; journal = journal_of r.journal.items } };
+    ghost view = { λ r. record { names = r.names; types = r.session.types; journal = journal_of r.journal.entries } };
 
     ghost invariant = { λ r. IsRoom r.names r.session r.steps.owners.items r.steps.places.items r.heard.count
-        (map (λ l. l.items) r.heard.lists) r.journal.items };
+        (map (λ l. l.items) r.heard.lists) r.journal.entries };
 }
 
 impl Room {
@@ -66,7 +66,7 @@ impl Room {
         Room {
             names,
             session,
-            journal: Vec::new(alloc),
+            journal: Journal::new(alloc),
             steps: Steps::new(alloc),
             heard,
             alloc,
@@ -100,7 +100,7 @@ impl Room {
         self.journal.len() as u64
     }
 
-    /// The k-th entry, from 0, or `None` past the end. It is made anew from its stored form of 64 bytes; texts and
+    /// The k-th entry, from 0, or `None` past the end. It is made anew from its stored form of 16 bytes; texts and
     /// lists of numbers allocate. It fails only when out of memory.
     pub fn entry(&self, k: u64) -> Result<Option<Entry>, AllocError>
         ensures entry { IfOk result (λ entry. entry ≡ slice_get self.now.journal k) }
@@ -110,7 +110,9 @@ impl Room {
         let Some((role, command)) = self.command(k)? else {
             return Ok(None);
         };
-        let answer = self.journal[k as usize].answer(self.journal.as_slice(), self.alloc)?;
+        let Some(answer) = self.journal.answer(k as usize, self.alloc)? else {
+            return Ok(None);
+        };
         Ok(Some(Entry {
             role,
             command,
@@ -126,10 +128,7 @@ impl Room {
         // past the end nothing asks for memory
         ensures none { length self.now.journal ≤ k → result ≡ Ok None }
     {
-        match self.journal.get(k as usize) {
-            Some(narrow) => Ok(Some(narrow.asked(self.alloc)?)),
-            None => Ok(None),
-        }
+        self.journal.asked(k as usize, self.alloc)
     }
 
     /// How many entries the journal has, and which of the role's steps the entries of others took back after the first
@@ -141,7 +140,7 @@ impl Room {
     {
         let ids = news(
             self.alloc,
-            self.journal.as_slice(),
+            &self.journal,
             &self.steps,
             self.heard.list(role),
             role,

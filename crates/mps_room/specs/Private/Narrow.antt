@@ -1,7 +1,7 @@
 -- Narrow entries, as a journal keeps them: a receipt names the entry of its send in place of the message that it took.
-use Rattle.std.specs.Prelude.{◌≡◌, ℕ, zero, suc, List, map, length, Option, Some, None, slice_get, IsSome, IfSome}
+use Rattle.std.specs.Prelude.{◌≡◌, ℕ, zero, suc, List, [], map, length, Option, Some, None, slice_get, IsSome, IfSome}
 use Rattle.std.specs.List.{AllByRecursion}
-use Rattle.std.specs.Option.{option_and_then}
+use Rattle.std.specs.Option.{option_and_then, option_map_or}
 use Rattle.mps_base.specs.declared.action.Message.{Message}
 use Rattle.mps_base.specs.declared.action.Step.{Step}
 use Rattle.mps_command.specs.Acts.{act_of}
@@ -10,6 +10,7 @@ use Rattle.mps_command.specs.declared.answer.Answer.TheVariants.{Done}
 use Rattle.mps_command.specs.declared.command.Command.{Command}
 use Rattle.mps_command.specs.declared.command.Command.TheVariants.{Forward}
 use Rattle.mps_session.specs.Answers.{given_by}
+use Rattle.mps_room.specs.Journal.{undone_by}
 use Rattle.mps_room.specs.declared.entry.Entry.{Entry}
 
 -- an entry whose answer has no message, and the place of the entry that gave the message, if there is one
@@ -29,6 +30,10 @@ message_at js k = option_and_then (λ s. given_in s.entry.command) (slice_get js
 -- the message that an entry took
 abbrev pub message_of : List Narrow → Narrow → Option Message
 message_of js s = option_and_then (message_at js) s.source
+
+-- the numbers of the steps that the entry at a place took back
+abbrev pub taken_at : List Narrow → ℕ → List ℕ
+taken_at js k = option_map_or (λ s. undone_by s.entry.answer) (slice_get js k) []
 
 -- an answer with the message that was taken
 abbrev pub with_message : Option Message → Answer → Answer

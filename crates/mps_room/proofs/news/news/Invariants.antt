@@ -8,4 +8,4 @@ use Rattle.mps_room.proofs.news.news.Given as goal
 
 abbrev pub invariant-loop-place : goal.invariant-loop-place
 invariant-loop-place l =
-    l.ids.items ++ flat_map (λ k. filter (owns l.steps.owners.items l.role) (undone_at (journal_of l.journal) k)) (drop l.place-index l.told) ≡ flat_map (λ k. filter (owns l.steps.owners.items l.role) (undone_at (journal_of l.journal) k)) l.told
+    l.ids.items ++ flat_map (λ k. filter (owns l.steps.owners.items l.role) (undone_at (journal_of l.journal.entries) k)) (drop l.place-index l.told) ≡ flat_map (λ k. filter (owns l.steps.owners.items l.role) (undone_at (journal_of l.journal.entries) k)) l.told

@@ -47,13 +47,13 @@ known : (c : After-keep) → c.args.role < length c.self.inside.session.types
 known c = subst (λ (m : RoomState). c.args.role < length m.types) (sym c.self.view_is) c.requires.role
 
 -- the entry joins the journal
-joined : (c : After-keep) → c.keep.new.journal.items ≡ c.self.inside.journal.items ++ narrow c.args.role c.args.command c.in-Ok.gist (source_place c.self.inside.steps.places.items c.in-Ok.gist) ∷ []
+joined : (c : After-keep) → c.keep.new.journal.entries ≡ c.self.inside.journal.entries ++ narrow c.args.role c.args.command c.in-Ok.gist (source_place c.self.inside.steps.places.items c.in-Ok.gist) ∷ []
 joined c =
     let gist = c.in-Ok.gist in
     let entry_by = λ (ps : List ℕ). narrow c.args.role c.args.command gist (source_place ps gist) in
     c.keep.ensures.journal
     ∙ ap (λ (l : List Narrow). l ++ entry_by c.reserve_entry.new.steps.places.items ∷ []) c.reserve_entry.ensures.journal
-    ∙ ap (λ (ps : List ℕ). c.self.inside.journal.items ++ entry_by ps ∷ []) c.reserve_entry.ensures.places
+    ∙ ap (λ (ps : List ℕ). c.self.inside.journal.entries ++ entry_by ps ∷ []) c.reserve_entry.ensures.places
 
 pub invariant_of-self-in-Ok : goal.invariant_of-self-in-Ok
 invariant_of-self-in-Ok c =
@@ -62,23 +62,23 @@ invariant_of-self-in-Ok c =
     let told = c.in-Ok in
     let room = c.reserve_entry.ensures in
     let hear = λ (owners : List ℕ) (q : ℕ). hears (owns owners q) q c.args.role (undone_by (narrow_answer told.gist)) in
-    keeping.kept_as r.names r.session r.steps.owners.items r.steps.places.items r.heard.count (map (λ v. v.items) r.heard.lists) r.journal.items c.self.invariant c.args.role (known l) (change_in l) told.answer (answered l) (kept l) c.in_default.ensures.few c.args.command (is_asked l)
+    keeping.kept_as r.names r.session r.steps.owners.items r.steps.places.items r.heard.count (map (λ v. v.items) r.heard.lists) r.journal.entries c.self.invariant c.args.role (known l) (change_in l) told.answer (answered l) (kept l) c.in_default.ensures.few c.args.command (is_asked l)
     told.gist told.ensures.kind told.ensures.sent told.ensures.gist
-    c.attempt.new.self c.keep.new.steps.owners.items c.keep.new.steps.places.items c.keep.new.heard.count (map (λ v. v.items) c.keep.new.heard.lists) c.keep.new.journal.items told.ensures.types (served l).state
+    c.attempt.new.self c.keep.new.steps.owners.items c.keep.new.steps.places.items c.keep.new.heard.count (map (λ v. v.items) c.keep.new.heard.lists) c.keep.new.journal.entries told.ensures.types (served l).state
     (c.keep.ensures.owners ∙ ap (λ (o : List ℕ). owners_after o c.args.role (narrow_answer told.gist)) room.owners)
     (c.keep.ensures.places
-    ∙ ap (λ (ps : List ℕ). owners_after ps (length c.reserve_entry.new.journal.items) (narrow_answer told.gist)) room.places
+    ∙ ap (λ (ps : List ℕ). owners_after ps (length c.reserve_entry.new.journal.entries) (narrow_answer told.gist)) room.places
     ∙ ap (λ (k : List Narrow). owners_after r.steps.places.items (length k) (narrow_answer told.gist)) room.journal)
     (c.keep.ensures.hearers ∙ room.hearers)
     (length-map c.keep.new.heard.lists (λ v. v.items) ∙ c.keep.ensures.lists)
     (λ others q there.
-    map_each (λ v. v.items) (λ p. p < c.reserve_entry.new.heard.count) (λ p k. with_place (hear c.reserve_entry.new.steps.owners.items p) (length c.reserve_entry.new.journal.items) k)
+    map_each (λ v. v.items) (λ p. p < c.reserve_entry.new.heard.count) (λ p k. with_place (hear c.reserve_entry.new.steps.owners.items p) (length c.reserve_entry.new.journal.entries) k)
     c.reserve_entry.new.heard.lists c.keep.new.heard.lists (c.keep.ensures.lists ∙ sym room.lists)
     (λ p d inside. c.keep.ensures.heard others p d inside) q (subst (λ (n : ℕ). q < n) (sym room.hearers) there)
     (omega (arith, there, room.lists, c.self.invariant.consistent.heard.few))
-    ∙ ap (λ (o : List ℕ). with_place (hear o q) (length c.reserve_entry.new.journal.items) (slice_index_or (map (λ v. v.items) c.reserve_entry.new.heard.lists) q [])) room.owners
+    ∙ ap (λ (o : List ℕ). with_place (hear o q) (length c.reserve_entry.new.journal.entries) (slice_index_or (map (λ v. v.items) c.reserve_entry.new.heard.lists) q [])) room.owners
     ∙ ap (λ (k : List Narrow). with_place (hear r.steps.owners.items q) (length k) (slice_index_or (map (λ v. v.items) c.reserve_entry.new.heard.lists) q [])) room.journal
-    ∙ ap (λ (k : List (List ℕ)). with_place (hear r.steps.owners.items q) (length r.journal.items) (slice_index_or k q [])) room.heard)
+    ∙ ap (λ (k : List (List ℕ)). with_place (hear r.steps.owners.items q) (length r.journal.entries) (slice_index_or k q [])) room.heard)
     (λ own. ap (λ k. map (λ v. v.items) k) (c.keep.ensures.unheard own) ∙ room.heard)
     (joined l)
 
@@ -88,7 +88,7 @@ keep-requires-clause-fits c =
     let told = c.in-Ok in
     let found = asked c.args.command c.requires.change in
     let served = told.ensures.accepted found.0 found.1 in
-    keeping.fits r.names r.session r.steps.owners.items r.steps.places.items r.heard.count (map (λ v. v.items) r.heard.lists) r.journal.items c.self.invariant c.args.role
+    keeping.fits r.names r.session r.steps.owners.items r.steps.places.items r.heard.count (map (λ v. v.items) r.heard.lists) r.journal.entries c.self.invariant c.args.role
     (subst (λ (m : RoomState). c.args.role < length m.types) (sym c.self.view_is) c.requires.role)
     found.0 told.answer (from_ok told.answer _ served.answer) (accepting r.session.types r.session.state c.args.role found.0 told.answer served.answer) c.in_default.ensures.few c.args.command found.2
     told.gist told.ensures.kind told.ensures.sent told.ensures.gist c.reserve_entry.new.steps.places.items c.reserve_entry.ensures.places
@@ -99,7 +99,7 @@ returns-in-Ok-clause-answer c =
     let r = c.self.inside in
     let told = c.in-Ok in
     let is =
-    keeping.answered_as r.names r.session r.steps.owners.items r.steps.places.items r.heard.count (map (λ v. v.items) r.heard.lists) r.journal.items c.self.invariant c.args.role (known l) (change_in l) told.answer (answered l) (kept l) c.in_default.ensures.few c.args.command (is_asked l)
+    keeping.answered_as r.names r.session r.steps.owners.items r.steps.places.items r.heard.count (map (λ v. v.items) r.heard.lists) r.journal.entries c.self.invariant c.args.role (known l) (change_in l) told.answer (answered l) (kept l) c.in_default.ensures.few c.args.command (is_asked l)
     told.gist told.ensures.kind told.ensures.sent told.ensures.gist
     in
     subst (λ (m : RoomState). MayAnswer told.answer (answer_to m.names m.types m.journal c.args.role c.args.command)) c.self.view_is
@@ -110,15 +110,15 @@ returns-in-Ok-clause-journal c =
     let l = (goal.at.returns-in-Ok-clause-journal c).After-keep in
     let r = c.self.inside in
     let told = c.in-Ok in
-    keeping.grown_as r.names r.session r.steps.owners.items r.steps.places.items r.heard.count (map (λ v. v.items) r.heard.lists) r.journal.items c.self.invariant c.args.role (known l) (change_in l) told.answer (answered l) (kept l) c.in_default.ensures.few c.args.command (is_asked l)
-    told.gist told.ensures.kind told.ensures.sent told.ensures.gist c.keep.new.journal.items (joined l)
+    keeping.grown_as r.names r.session r.steps.owners.items r.steps.places.items r.heard.count (map (λ v. v.items) r.heard.lists) r.journal.entries c.self.invariant c.args.role (known l) (change_in l) told.answer (answered l) (kept l) c.in_default.ensures.few c.args.command (is_asked l)
+    told.gist told.ensures.kind told.ensures.sent told.ensures.gist c.keep.new.journal.entries (joined l)
     ∙ ap (λ (m : RoomState). grown m.journal c.args.role c.args.command told.answer) c.self.view_is
 
-pub returns-in-Err-attempt-clause-answer : goal.returns-in-Err-attempt-clause-answer
-returns-in-Err-attempt-clause-answer c =
+pub returns-clause-answer : goal.returns-clause-answer
+returns-clause-answer c =
     let r = c.self.inside in
     let found = asked c.args.command c.requires.change in
     let refusal = c.in-Err-attempt.refusal in
     subst (λ (m : RoomState). MayAnswer (Refused refusal) (answer_to m.names m.types m.journal c.args.role c.args.command)) c.self.view_is
-    (consistency.refused_as r.names r.session r.steps.owners.items r.heard.count (map (λ v. v.items) r.heard.lists) (journal_of r.journal.items) c.self.invariant.consistent c.args.role found.0 c.args.command found.2
-    (subst (λ (n : ℕ). n < most_entries) (sym (length-map r.journal.items (whole r.journal.items))) c.in_default.ensures.few) c.attempt.new.self.state refusal (c.in-Err-attempt.ensures.accepted found.0 found.1))
+    (consistency.refused_as r.names r.session r.steps.owners.items r.heard.count (map (λ v. v.items) r.heard.lists) (journal_of r.journal.entries) c.self.invariant.consistent c.args.role found.0 c.args.command found.2
+    (subst (λ (n : ℕ). n < most_entries) (sym (length-map r.journal.entries (whole r.journal.entries))) c.in_default.ensures.few) c.attempt.new.self.state refusal (c.in-Err-attempt.ensures.accepted found.0 found.1))

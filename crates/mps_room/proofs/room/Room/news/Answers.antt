@@ -10,10 +10,10 @@ pub news-requires-clause-heard : goal.news-requires-clause-heard
 news-requires-clause-heard c =
     let r = c.self.inside in
     let kept = c.self.invariant.consistent in
-    let told : c.list.result.now ≡ places (journal_of r.journal.items) c.args.role =
+    let told : c.list.result.now ≡ places (journal_of r.journal.entries) c.args.role =
     elim (cases_lt c.args.role r.heard.count) [
       | inl there ↦ c.list.ensures.role there ∙ kept.heard.listed c.args.role there
-      | inr none ↦ c.list.ensures.none (omega (arith, none)) ∙ sym (nobody r.names r.session.types (journal_of r.journal.items) c.args.role kept.legal.each (omega (arith, none, kept.roles)))
+      | inr none ↦ c.list.ensures.none (omega (arith, none)) ∙ sym (nobody r.names r.session.types (journal_of r.journal.entries) c.args.role kept.legal.each (omega (arith, none, kept.roles)))
     ]
     in
-    told ∙ ap (λ (l : List Narrow). places (journal_of l) c.args.role) (sym c.as_slice.ensures.value)
+    told

@@ -28,7 +28,7 @@ returns-then-len-ge-MAX_ENTRIES-clause-refusal c =
     let command = c.args.command.now in
     let told : fault r.session.types r.session.state c.args.role command ≡ None = sym c.in_default.ensures.fault in
     sym (foreseen_full m.names m.types m.journal c.args.role command (c.if-not-is_change.ensures.0 refl)
-    (omega (arith, c.if-len-ge-MAX_ENTRIES.true, c.len.ensures, length-map r.journal.items (whole r.journal.items), ap (λ (k : RoomState). length k.journal) c.self.view_is))
+    (omega (arith, c.if-len-ge-MAX_ENTRIES.true, c.len.ensures, length-map r.journal.entries (whole r.journal.entries), ap (λ (k : RoomState). length k.journal) c.self.view_is))
     (ap (λ (k : RoomState). fault k.types (run k.types k.journal) c.args.role command) (sym c.self.view_is)
     ∙ ap (λ (st : State). fault r.session.types st c.args.role command) (sym c.self.invariant.consistent.state)
     ∙ told))
@@ -39,7 +39,7 @@ returns-clause-refusal c =
     let m = c.args.self.now in
     let command = c.args.command.now in
     let told : fault r.session.types r.session.state c.args.role command ≡ None = sym c.in_default.ensures.fault in
-    let room : length m.journal < most_entries = omega (arith, c.if-len-ge-MAX_ENTRIES.false, c.len.ensures, length-map r.journal.items (whole r.journal.items), ap (λ (k : RoomState). length k.journal) c.self.view_is) in
+    let room : length m.journal < most_entries = omega (arith, c.if-len-ge-MAX_ENTRIES.false, c.len.ensures, length-map r.journal.entries (whole r.journal.entries), ap (λ (k : RoomState). length k.journal) c.self.view_is) in
     sym (foreseen_taken m.names m.types m.journal c.args.role command room
     (omega (arith, room, ap (λ (k : RoomState). length k.journal) c.self.view_is, c.self.invariant.consistent.owners.few, c.self.invariant.consistent.owners.next, ap (λ (k : RoomState). (run k.types k.journal).next) c.self.view_is, ap (λ (st : State). st.next) c.self.invariant.consistent.state))
     (ap (λ (k : RoomState). fault k.types (run k.types k.journal) c.args.role command) (sym c.self.view_is)
