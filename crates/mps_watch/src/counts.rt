@@ -53,43 +53,58 @@ impl Answers {
     }
 }
 
+// How many shares a tally has, and how many counts stand in each: threads that count in different ones don't share a line of
+// the processor's memory.
+const SHARES: usize = 8;
+
+const SHARE: usize = 24;
+
 /// How many answers there are of each word, and of all others.
 #[derive(Drop)]
 pub struct Tally {
     answers: Answers,
-    // of each word, then of the others
+    // in each share of each word, then of the others
     counts: Vec<Count>,
 }
 
 impl Tally {
     /// Of these answers; nothing was counted yet.
     pub fn new(alloc: Global, answers: Answers) -> Result<Tally, AllocError> {
-        let mut counts = Vec::new(alloc);
-        for _ in answers.words() {
+        let mut counts = Vec::with_capacity(alloc, SHARES * SHARE)?;
+        for _ in 0..SHARES * SHARE {
             counts.push(Count::new())?;
         }
-        counts.push(Count::new())?;
         Ok(Tally { answers, counts })
     }
 
-    /// Counts the word.
-    pub fn add(&self, word: &[u8]) {
+    /// Counts the word, for a connection of that number.
+    pub fn add(&self, connection: u64, word: &[u8]) {
         let words = self.answers.words();
         let place = words
             .iter()
             .position(|known| known.as_bytes() == word)
             .unwrap_or(words.len());
-        if let Some(count) = self.counts.get(place) {
+        let share = (connection % SHARES as u64) as usize;
+        if let Some(count) = self.counts.get(share * SHARE + place) {
             count.add(1);
         }
+    }
+
+    // How many there are of the word at this place.
+    fn value(&self, place: usize) -> u64 {
+        let mut all = 0u64;
+        for count in self.counts.iter().skip(place).step_by(SHARE) {
+            all = all.wrapping_add(count.value());
+        }
+        all
     }
 
     /// Appends a line for each word, and for all others.
     pub fn write(&self, alloc: Global, name: &str, out: &mut Vec<u8>) -> Result<(), AllocError> {
         let others = ["other"];
         let words = self.answers.words().iter().chain(&others);
-        for (word, count) in words.zip(&self.counts) {
-            let value = count.value();
+        for (place, word) in words.enumerate() {
+            let value = self.value(place);
             let line = format!(in alloc; "{name}{{answer=\"{word}\"}} {value}\n")?;
             out.extend_from_slice(line.as_bytes())?;
         }

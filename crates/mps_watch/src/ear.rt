@@ -2,10 +2,10 @@
 
 use crate::counts::word_of;
 use crate::watch::{Ended, Watch};
-use memchr::memchr_iter;
+use memchr::memchr;
 use mps_base::read_number;
 use std::alloc::Global;
-use std::str;
+use std::{mem, str};
 
 // How many bytes of a line, or of an answer, are kept to be told.
 const MOST: usize = 512;
@@ -79,13 +79,13 @@ impl<'w, R: Eprint> Ear<'w, R> {
 
     /// These bytes went through, after those before them.
     pub fn hear(&mut self, bytes: &[u8]) {
-        let mut begin = 0;
-        for end in memchr_iter(b'\n', bytes) {
-            self.keep(bytes.get(begin..end).unwrap_or(b""));
-            self.end_line();
-            begin = end.saturating_add(1);
+        let mut rest = bytes;
+        while let Some(end) = memchr(b'\n', rest) {
+            let (piece, more) = rest.split_at(end);
+            self.end_line(piece);
+            rest = &more[1..];
         }
-        self.keep(bytes.get(begin..).unwrap_or(b""));
+        self.keep(rest);
     }
 
     // Keeps a piece of a line, as far as it is told. Where there is no memory for it, less is.
@@ -95,11 +95,25 @@ impl<'w, R: Eprint> Ear<'w, R> {
         let _kept = self.line.extend_from_slice(kept);
     }
 
+    // This piece ends a line. Most lines come whole, and are not copied.
+    fn end_line(&mut self, piece: &[u8]) {
+        if self.line.is_empty() {
+            self.hear_line(piece.get(..MOST).unwrap_or(piece));
+            return;
+        }
+        self.keep(piece);
+        let line = mem::replace(&mut self.line, Vec::new(self.watch.alloc));
+        self.hear_line(line.as_slice());
+    }
+
     // A whole line went through.
-    fn end_line(&mut self) {
+    fn hear_line(&mut self, line: &[u8]) {
         match self.side {
-            Side::Answers if !self.begun => self.answer_first(),
-            Side::Answers => self.watch.counts.lines.add(word_of(self.line.as_slice())),
+            Side::Answers if !self.begun => self.answer_first(line),
+            Side::Answers => {
+                let word = word_of(line);
+                self.watch.counts.lines.add(self.connection, word);
+            }
             Side::Lines => {}
         }
         if self.begun && self.watch.tells_lines() {
@@ -107,17 +121,14 @@ impl<'w, R: Eprint> Ear<'w, R> {
                 Side::Lines => "line",
                 Side::Answers => "answer",
             };
-            let line = self.line.as_slice();
             self.watch.line(self.rt, event, self.connection, line);
         }
         self.begun = true;
-        self.line.clear();
     }
 
     // The first line was answered.
-    fn answer_first(&mut self) {
-        let line = self.line.as_slice();
-        self.watch.counts.joins.add(word_of(line));
+    fn answer_first(&mut self, line: &[u8]) {
+        self.watch.counts.joins.add(self.connection, word_of(line));
         self.joined = joined_by(self.watch.alloc, line);
         match &self.joined {
             Some(joined) => self

@@ -1,0 +1,6 @@
+-- Each turn hears a line, and its end.
+use Rattle.std.proofs.Common.{length}
+use Rattle.mps_watch.proofs.ear.Ear.hear.Given as goal
+
+abbrev pub decreases-loop-end : goal.decreases-loop-end
+decreases-loop-end g l = length l.rest
