@@ -13,7 +13,7 @@ ghost use Rattle.serde_json.specs.Find.{of_integer};
 ghost use Rattle.serde_json.specs.View.{items_of};
 ghost use Rattle.serde_json.specs.Written.{comma_if, compact_text, items_text};
 
-use itoa::Buffer;
+use crate::pieces::{Decimal, put_name};
 use mps_base::{Act, Message, Name, Role, Roles, Step, StepId, Value};
 use std::alloc::AllocError;
 
@@ -44,16 +44,6 @@ pub(crate) fn put_comma(out: &mut Vec<u8>, later: bool) -> Result<(), AllocError
     Ok(())
 }
 
-// Appends a name as a JSON string: `put_string` with the fact that a name's bytes need no escapes. It fails only when
-// out of memory, and appends nothing then.
-#[inline(always)]
-fn put_name(out: &mut Vec<u8>, name: &Name) -> Result<(), AllocError>
-    ensures text { OnOk result (out.new.items ≡ out.old.items ++ compact_text (string name.now)) }
-    ensures plain { OnOk result (IsPlain (string name.now)) }
-{
-    put_string(out, name.as_bytes())
-}
-
 /// Appends the name of a role, which has to be one of `names`, as a JSON string. It fails only when out of memory, and
 /// appends nothing then.
 #[inline(always)]
@@ -71,17 +61,19 @@ pub(crate) fn put_role(out: &mut Vec<u8>, names: &Roles, role: Role) -> Result<(
 pub(crate) fn put_number(out: &mut Vec<u8>, id: StepId) -> Result<(), AllocError>
     ensures { OnOk result (out.new.items ≡ out.old.items ++ compact_text (number_shown id)) }
 {
-    let mut digits = Buffer::new();
-    out.extend_from_slice(digits.format(id.number()).as_bytes())
+    Decimal::of(id.number()).put(out)
 }
 
-// Appends an integer as a JSON number, in decimal, with a `-` if it is below 0. It fails only when out of memory, and
-// appends nothing then.
+// Appends an integer as a JSON number, in decimal, with a `-` if it is below 0. When out of memory the `-` may stand in
+// `out` alone; the caller drops it.
+#[inline(always)]
 fn put_int(out: &mut Vec<u8>, n: i64) -> Result<(), AllocError>
     ensures { OnOk result (out.new.items ≡ out.old.items ++ compact_text (number (of_integer n))) }
 {
-    let mut digits = Buffer::new();
-    out.extend_from_slice(digits.format(n).as_bytes())
+    if n < 0 {
+        out.push(b'-')?;
+    }
+    Decimal::of(n.unsigned_abs()).put(out)
 }
 
 // Appends a value as JSON: a number, `true` or `false`, or a string, since a text's content needs no escapes. When out
