@@ -65,9 +65,12 @@ impl Decimal {
     pub(crate) fn of(n: u64) -> Decimal
         ensures { result ≡ decimal n }
     {
-        let mut bytes = [0; 2 * MAX_DIGITS];
-        let start = write_digits(n, &mut bytes, MAX_DIGITS);
-        Decimal { start, bytes }
+        let mut decimal = Decimal {
+            start: 0,
+            bytes: [0; 2 * MAX_DIGITS],
+        };
+        decimal.start = write_digits(n, &mut decimal.bytes, MAX_DIGITS);
+        decimal
     }
 
     /// Appends the digits. It fails only when out of memory, and appends nothing then.

@@ -1,5 +1,5 @@
 //! Parts of a shown state, written as text at once.
-ghost use Rattle.std.specs.Prelude.{◌≡◌, ◌<◌, ◌++◌, ◌∷◌, [], ℕ, List, Option, OnOk, length, codes, true};
+ghost use Rattle.std.specs.Prelude.{◌≡◌, ◌<◌, ◌++◌, ◌∷◌, [], ℕ, List, Option, OnOk, length, codes, decimal, true};
 ghost use Rattle.std.specs.List.{AllByRecursion};
 ghost use Rattle.std.specs.Option.{option_copied};
 ghost use Rattle.mps_base.specs.Texts.{IsPlainByte};
@@ -7,14 +7,14 @@ ghost use Rattle.mps_base.specs.declared.action.Message.TheVariants.{Label};
 ghost use Rattle.mps_session.specs.Peers.{IsPeerKnown, IsKnown};
 ghost use Rattle.mps_show.specs.Plain.{IsPlain, ArePlainItems};
 ghost use Rattle.mps_show.specs.Shown.{role_name, value_shown, moved_shown, waiting_shown, taken_shown, out_shown};
-ghost use Rattle.mps_show.specs.Shown.{in_shown, act_shown, step_shown, number_shown, binding_shown};
+ghost use Rattle.mps_show.specs.Shown.{in_shown, act_shown, step_shown, binding_shown};
 ghost use Rattle.serde_json.specs.Data.{string, number};
 ghost use Rattle.serde_json.specs.Find.{of_integer};
 ghost use Rattle.serde_json.specs.View.{items_of};
 ghost use Rattle.serde_json.specs.Written.{comma_if, compact_text, items_text};
 
 use crate::pieces::{Decimal, put_name};
-use mps_base::{Act, Message, Name, Role, Roles, Step, StepId, Value};
+use mps_base::{Act, Message, Name, Role, Roles, Step, Value};
 use std::alloc::AllocError;
 
 // Appends a JSON string of bytes that need no escapes: printable ASCII without quote and backslash. Out of memory is
@@ -53,15 +53,6 @@ pub(crate) fn put_role(out: &mut Vec<u8>, names: &Roles, role: Role) -> Result<(
     ensures plain { OnOk result (IsPlain (role_name names.now role)) }
 {
     put_name(out, &names.name(role))
-}
-
-/// Appends the number of a step as a JSON number, in decimal. It fails only when out of memory, and appends nothing
-/// then.
-#[inline(always)]
-pub(crate) fn put_number(out: &mut Vec<u8>, id: StepId) -> Result<(), AllocError>
-    ensures { OnOk result (out.new.items ≡ out.old.items ++ compact_text (number_shown id)) }
-{
-    Decimal::of(id.number()).put(out)
 }
 
 // Appends an integer as a JSON number, in decimal, with a `-` if it is below 0. When out of memory the `-` may stand in
@@ -126,21 +117,23 @@ fn put_label(out: &mut Vec<u8>, label: &Name) -> Result<(), AllocError>
     Ok(out.push(b'}')?)
 }
 
-/// Appends a step as a JSON array: number, role, word and arguments, and at the end the message that it gave or took.
-/// When out of memory a part may stand in `out`; the caller drops it.
+/// Appends a step as a JSON array: number, role, word and arguments, and at the end the message that it gave or took. The
+/// number comes in decimal too, since a caller may need it again. When out of memory a part may stand in `out`; the caller drops it.
 pub(crate) fn put_step(
     out: &mut Vec<u8>,
     names: &Roles,
     step: &Step,
+    number: &Decimal,
     moved: Option<&Message>,
 ) -> Result<(), AllocError>
-    requires { IsKnown (length names.now) step.now }
+    requires known { IsKnown (length names.now) step.now }
+    requires number { number.now ≡ decimal step.now.id }
     ensures text { OnOk result (out.new.items
         ≡ out.old.items ++ compact_text (step_shown names.now (step.now, option_copied moved.entry))) }
     ensures plain { OnOk result (IsPlain (step_shown names.now (step.now, option_copied moved.entry))) }
 {
     out.push(b'[')?;
-    put_number(out, step.id)?;
+    number.put(out)?;
     out.push(b',')?;
     put_role(out, names, step.role)?;
     put_act(out, names, &step.act, moved)

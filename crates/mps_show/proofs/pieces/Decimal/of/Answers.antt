@@ -3,5 +3,5 @@ use Rattle.std.proofs.Common.{rules}
 use Rattle.std.proofs.lemmas.Fmt.{length-decimal-le}
 use Rattle.mps_show.proofs.pieces.Decimal.of.Goals as goal
 
-pub write_digits-start-requires : goal.write_digits-start-requires
-write_digits-start-requires c = search (rules, length-decimal-le 20)
+pub write_digits-requires : goal.write_digits-requires
+write_digits-requires c = search (rules, length-decimal-le 20)
