@@ -1,5 +1,5 @@
 //! Names and numbers, each appended by a copy of fixed size: one takes less than a copy of the text's own length.
-ghost use Rattle.std.specs.Prelude.{◌≡◌, ◌≤◌, ◌++◌, OnOk, length, take, decimal};
+ghost use Rattle.std.specs.Prelude.{◌≡◌, ◌≤◌, ◌++◌, [], OnOk, length, take, decimal};
 ghost use Rattle.mps_show.specs.Plain.{IsPlain};
 ghost use Rattle.serde_json.specs.Data.{string};
 ghost use Rattle.serde_json.specs.Written.{compact_text};
@@ -41,7 +41,7 @@ pub(crate) fn put_name(out: &mut Vec<u8>, name: &Name) -> Result<(), AllocError>
     put_first(out, &quoted, len + 2)
 }
 
-/// A number in decimal.
+/// A number in decimal, which is written in place, since a new one for each number takes more.
 #[derive(Drop)]
 pub(crate) struct Decimal {
     // where the digits begin, which end at MAX_DIGITS
@@ -60,17 +60,23 @@ impl Model for Decimal {
 }
 
 impl Decimal {
-    /// Writes the number in decimal. It does not allocate.
+    /// No digits yet: `set` writes some.
     #[inline(always)]
-    pub(crate) fn of(n: u64) -> Decimal
-        ensures { result ≡ decimal n }
+    pub(crate) fn new() -> Decimal
+        ensures { result ≡ [] }
     {
-        let mut decimal = Decimal {
-            start: 0,
+        Decimal {
+            start: MAX_DIGITS,
             bytes: [0; 2 * MAX_DIGITS],
-        };
-        decimal.start = write_digits(n, &mut decimal.bytes, MAX_DIGITS);
-        decimal
+        }
+    }
+
+    /// Writes this number in place of the one before. It does not allocate.
+    #[inline(always)]
+    pub(crate) fn set(&mut self, n: u64)
+        ensures { self.new ≡ decimal n }
+    {
+        self.start = write_digits(n, &mut self.bytes, MAX_DIGITS);
     }
 
     /// Appends the digits. It fails only when out of memory, and appends nothing then.

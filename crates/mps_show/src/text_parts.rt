@@ -64,7 +64,9 @@ fn put_int(out: &mut Vec<u8>, n: i64) -> Result<(), AllocError>
     if n < 0 {
         out.push(b'-')?;
     }
-    Decimal::of(n.unsigned_abs()).put(out)
+    let mut digits = Decimal::new();
+    digits.set(n.unsigned_abs());
+    digits.put(out)
 }
 
 // Appends a value as JSON: a number, `true` or `false`, or a string, since a text's content needs no escapes. When out
@@ -84,6 +86,7 @@ fn put_value(out: &mut Vec<u8>, value: &Value) -> Result<(), AllocError>
 
 // Appends a message of a step as JSON: a label is a plain string, since the step's word tells it from a text. When out
 // of memory no clause says what `out` has; the caller drops it.
+#[inline(always)]
 fn put_moved(out: &mut Vec<u8>, message: &Message) -> Result<(), AllocError>
     ensures text { OnOk result (out.new.items ≡ out.old.items ++ compact_text (moved_shown message.now)) }
     ensures plain { OnOk result (IsPlain (moved_shown message.now)) }

@@ -21,6 +21,9 @@ use mps_base::{Message, Role, Roles};
 use mps_session::{Queue, Session};
 use std::alloc::AllocError;
 
+// For how many bytes of each step there is room in the beginning: what those of short names take.
+const STEP_BYTES: usize = 64;
+
 /// Appends the state of the session as compact JSON: an object of its history, its queues and its roles. O(roles *
 /// steps). Out of memory is the only error, and leaves `out` unchanged: the text is made in a buffer of its own.
 pub fn write_show(names: &Roles, session: &Session, out: &mut Vec<u8>) -> Result<(), AllocError>
@@ -31,8 +34,13 @@ pub fn write_show(names: &Roles, session: &Session, out: &mut Vec<u8>) -> Result
     ensures err { OnErr result (out.new.items ≡ out.old.items) }
 {
     // a buffer of its own: lack of memory midway leaves `out` as it was
-    let mut text = Vec::new(*out.allocator());
+    let room = session.len().saturating_mul(STEP_BYTES);
+    let mut text = Vec::with_capacity(*out.allocator(), room)?;
     put_state(&mut text, names, session)?;
+    if out.is_empty() {
+        *out = text;
+        return Ok(());
+    }
     out.extend_from_slice(&text)
 }
 
@@ -90,7 +98,11 @@ fn put_newest(
     ensures plain { OnOk result (IsPlain (newest_shown names.now (newest_of role (moves_of session.now)))) }
 {
     match session.newest_of(role) {
-        Some((step, moved)) => put_step(out, names, step, &Decimal::of(step.id.number()), moved),
+        Some((step, moved)) => {
+            let mut number = Decimal::new();
+            number.set(step.id.number());
+            put_step(out, names, step, &number, moved)
+        }
         None => out.extend_from_slice(b"null"),
     }
 }
@@ -131,9 +143,10 @@ fn put_history(
 {
     out.push(b'[')?;
     let mut later = false;
+    let mut number = Decimal::new();
     for moved in session.moves() {
         put_comma(out, later)?;
-        let number = Decimal::of(moved.0.id.number());
+        number.set(moved.0.id.number());
         put_step(out, names, moved.0, &number, moved.1)?;
         let past = &mut pasts[moved.0.role.index()];
         past.put(&number)?;

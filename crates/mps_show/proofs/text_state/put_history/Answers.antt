@@ -42,7 +42,7 @@ loop-moved-preserved c =
       text = row_more c.loop-moved.out.items c.put_comma.new.out.items c.put_step.new.out.items _ c.loop-moved.later true (f (c.in-Some.moved.0.now, option_copied c.in-Some.moved.1)) (map f left) (map f rest) c.in_ok-put_comma.ensures c.in_ok-put_step.ensures.text refl (ap (map f) split) c.loop-moved.invariant.text;
       plain = λ h. c.loop-moved.invariant.plain (subst (λ (l : List (Step × Option Message)). ArePlainItems (items_of (map f l))) (sym split) (c.in_ok-put_step.ensures.plain, h));
       known = known.1;
-      pasts = λ p. past_more c.loop-moved.pasts c.put.new.self c.of-number.result c.index-pasts-index.result c.index.result c.in-Some.moved.0.now (map (λ m. m.0) left) (map (λ m. m.0) rest) p c.index.ensures.place within (c.of-number.ensures ∙ ap decimal c.number.ensures.number) c.in_ok-put.ensures (ap (map (λ m. m.0)) split) ∙ c.loop-moved.invariant.pasts p;
+      pasts = λ p. past_more c.loop-moved.pasts c.put.new.self c.set.new.self c.index-pasts-index.result c.index.result c.in-Some.moved.0.now (map (λ m. m.0) left) (map (λ m. m.0) rest) p c.index.ensures.place within (c.set.ensures ∙ ap decimal c.number.ensures.number) c.in_ok-put.ensures (ap (map (λ m. m.0)) split) ∙ c.loop-moved.invariant.pasts p;
     }
 
 pub returns-clause-pasts : goal.returns-clause-pasts
