@@ -120,8 +120,9 @@ fn put_label(out: &mut Vec<u8>, label: &Name) -> Result<(), AllocError>
     Ok(out.push(b'}')?)
 }
 
-/// Appends a step as a JSON array: number, role, word and arguments, and at the end the message that it gave or took. The
-/// number comes in decimal too, since a caller may need it again. When out of memory a part may stand in `out`; the caller drops it.
+/// Appends a step as a JSON array: number, role, word and arguments, and at the end the message that it gave or took.
+/// The caller has the number in decimal, since it may need it again. When out of memory a part may stand in `out`; the
+/// caller drops it.
 pub(crate) fn put_step(
     out: &mut Vec<u8>,
     names: &Roles,

@@ -1,5 +1,6 @@
 //! The shown state, written as text at once.
-ghost use Rattle.std.specs.Prelude.{◌≡◌, ◌<◌, ◌++◌, ◌∷◌, [], ℕ, List, IfOk, OnOk, OnErr, length, map, replicate, codes, false};
+ghost use Rattle.std.specs.Prelude.{◌≡◌, ◌<◌, ◌++◌, ◌∷◌, [], ℕ, List, IfOk, OnOk, OnErr, length, map, replicate, codes};
+ghost use Rattle.std.specs.Prelude.{false};
 ghost use Rattle.std.specs.List.{flat_map, range_with_len};
 ghost use Rattle.mps_history.specs.Steps.{newest_of, numbers, steps_of};
 ghost use Rattle.mps_local.specs.Actions.{head};
@@ -21,11 +22,12 @@ use mps_base::{Message, Role, Roles};
 use mps_session::{Queue, Session};
 use std::alloc::AllocError;
 
-// For how many bytes of each step there is room in the beginning: what those of short names take.
+// For how many bytes a step there is room in the beginning: more than steps with short names and numbers take.
 const STEP_BYTES: usize = 64;
 
-/// Appends the state of the session as compact JSON: an object of its history, its queues and its roles. O(roles *
-/// steps). Out of memory is the only error, and leaves `out` unchanged: the text is made in a buffer of its own.
+/// Appends the state of the session as compact JSON: an object of its history, its queues and its roles. O(steps). Out
+/// of memory is the only error, and leaves `out` unchanged: the text is made in a buffer of its own, which an empty
+/// `out` takes over.
 pub fn write_show(names: &Roles, session: &Session, out: &mut Vec<u8>) -> Result<(), AllocError>
     requires { length names.now ≡ length session.now.types }
     ensures text { OnOk result (out.new.items ≡ out.old.items
@@ -33,7 +35,7 @@ pub fn write_show(names: &Roles, session: &Session, out: &mut Vec<u8>) -> Result
     ensures shown { OnOk result (AreShown (show_text names.now session.now.types session.now.state.history)) }
     ensures err { OnErr result (out.new.items ≡ out.old.items) }
 {
-    // a buffer of its own: lack of memory midway leaves `out` as it was
+    // a buffer of its own: lack of memory midway leaves `out` as it was; a product past the range is no room
     let room = session.len().saturating_mul(STEP_BYTES);
     let mut text = Vec::with_capacity(*out.allocator(), room)?;
     put_state(&mut text, names, session)?;
@@ -125,8 +127,8 @@ fn put_state(out: &mut Vec<u8>, names: &Roles, session: &Session) -> Result<(), 
     Ok(out.push(b'}')?)
 }
 
-// Appends the surviving steps as a JSON array, in order, and the number of each to its role's past. When out of memory a
-// part may stand in both; the caller drops them.
+// Appends the surviving steps as a JSON array, in order, and the number of each to its role's past. When out of memory
+// a part may stand in both; the caller drops them.
 fn put_history(
     out: &mut Vec<u8>,
     names: &Roles,
