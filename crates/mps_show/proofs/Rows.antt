@@ -1,8 +1,9 @@
 -- Arrays that are being written.
-use Rattle.std.proofs.Common.{◌≡◌, ℕ, suc, ◌+◌, ◌-◌, ◌<◌, Bool, true, false, List, [], ◌∷◌, ◌++◌, length, drop, drop-cons, add-one, map, Some, refl, sym, ap, ◌∙◌, arith, rules, append_assoc, append-nil, Vec, Global}
-use Rattle.std.specs.Prelude.{slice_get, OnOk, Result}
+use Rattle.std.proofs.Common.{◌≡◌, ℕ, suc, ◌+◌, ◌-◌, ◌<◌, Bool, true, false, List, [], ◌∷◌, ◌++◌, length, drop, drop-cons, add-one, map, replicate, Some, refl, sym, ap, ◌∙◌, arith, rules, append_assoc, append-nil, ⊎_elim, Vec, Global}
+use Rattle.std.specs.Prelude.{slice_get, slice_index_or, slice_set, decimal, OnOk, Result}
 use Rattle.std.specs.List.{flat_map, range_with_len, AllByRecursion}
-use Rattle.std.proofs.lemmas.List.{map-append}
+use Rattle.std.proofs.lemmas.Bool.{cases_eq, ne_eqb}
+use Rattle.std.proofs.lemmas.List.{map-append, get_or_default, get_or-set_same, get_or-set_other}
 use Rattle.std.proofs.lemmas.Option.{slice_get_within, get_or_from_slice_get}
 use Rattle.mps_base.specs.Spaced.{spaced}
 use Rattle.mps_base.specs.declared.action.Step.{Step}
@@ -14,7 +15,7 @@ use Rattle.serde_json.specs.declared.value.Value.{Value, Array, the_lemmas}
 use Rattle.serde_json.specs.Written.{comma_if, compact_text, items_text}
 use Rattle.mps_show.specs.Plain.{ArePlainItems}
 use Rattle.mps_show.specs.Shown.{row}
-use Rattle.mps_show.specs.Private.Rows.{joined, behind, words_behind}
+use Rattle.mps_show.specs.Private.Rows.{joined, behind, past_text, words_behind}
 
 -- the numbers from q on
 pub range_next : (q n : ℕ) → q < n → range_with_len q (n - q) ≡ q ∷ range_with_len (q + 1) (n - (q + 1))
@@ -26,6 +27,25 @@ closes later [] = refl
 closes later (d ∷ ds) =
     append_assoc (comma_if later) (compact_text d ++ joined true ds) (93 ∷ [])
     ∙ ap (λ (l : List ℕ). comma_if later ++ l) (append_assoc (compact_text d) (joined true ds) (93 ∷ []) ∙ ap (λ (l : List ℕ). compact_text d ++ l) (closes true ds))
+
+-- the text of a role's past, with brackets and without its first comma, is an array
+pub past_array : (ds : List Data) → 91 ∷ (drop 1 (joined true ds) ++ 93 ∷ []) ≡ compact_text (row ds)
+past_array [] = refl
+past_array (d ∷ ds) = ap (λ (l : List ℕ). 91 ∷ l) (append_assoc (compact_text d) (joined true ds) (93 ∷ []) ∙ ap (λ (l : List ℕ). compact_text d ++ l) (closes true ds))
+
+-- without steps nothing stands in a past
+pub nothing_at : (n p : ℕ) → slice_index_or (replicate {A = List ℕ} n []) p [] ≡ []
+nothing_at (suc n) (suc p) = nothing_at n p
+nothing_at other others = refl
+
+-- the number of one more step stands in its role's past
+pub past_more : (pasts : List (List ℕ)) (new digits was : List ℕ) (i : ℕ) (s : Step) (left rest : List Step) (p : ℕ) → i ≡ s.role → i < length pasts → digits ≡ decimal s.id → new ≡ slice_index_or pasts i was ++ 44 ∷ digits → left ≡ s ∷ rest → slice_index_or (slice_set pasts i new) p [] ++ past_text p rest ≡ slice_index_or pasts p [] ++ past_text p left
+past_more pasts new digits was i s left rest p of within is e split =
+    let same = get_or_default pasts i was [] within in
+    ⊎_elim
+    (λ (own : i ≡ p). grind (arith, append_assoc, get_or-set_same pasts i new [] within))
+    (λ (other : i ≡ p → ⊥). grind (arith, ne_eqb i p other, get_or-set_other pasts i p new [] (λ e. other (sym e))))
+    (cases_eq i p)
 
 pub joined-append : (later : Bool) (a b : List Data) → joined later (a ++ b) ≡ joined later a ++ joined (behind later a) b
 joined-append later [] b = refl

@@ -12,6 +12,8 @@ mod examples;
 mod json_parts;
 mod json_state;
 mod laws;
+mod past;
+mod pieces;
 mod text_heads;
 mod text_parts;
 mod text_state;

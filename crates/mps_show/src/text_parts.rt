@@ -1,5 +1,5 @@
 //! Parts of a shown state, written as text at once.
-ghost use Rattle.std.specs.Prelude.{◌≡◌, ◌<◌, ◌++◌, ◌∷◌, [], ℕ, List, Option, OnOk, length, codes, true};
+ghost use Rattle.std.specs.Prelude.{◌≡◌, ◌<◌, ◌++◌, ◌∷◌, [], ℕ, List, Option, OnOk, length, codes, decimal, true};
 ghost use Rattle.std.specs.List.{AllByRecursion};
 ghost use Rattle.std.specs.Option.{option_copied};
 ghost use Rattle.mps_base.specs.Texts.{IsPlainByte};
@@ -7,14 +7,14 @@ ghost use Rattle.mps_base.specs.declared.action.Message.TheVariants.{Label};
 ghost use Rattle.mps_session.specs.Peers.{IsPeerKnown, IsKnown};
 ghost use Rattle.mps_show.specs.Plain.{IsPlain, ArePlainItems};
 ghost use Rattle.mps_show.specs.Shown.{role_name, value_shown, moved_shown, waiting_shown, taken_shown, out_shown};
-ghost use Rattle.mps_show.specs.Shown.{in_shown, act_shown, step_shown, number_shown, binding_shown};
+ghost use Rattle.mps_show.specs.Shown.{in_shown, act_shown, step_shown, binding_shown};
 ghost use Rattle.serde_json.specs.Data.{string, number};
 ghost use Rattle.serde_json.specs.Find.{of_integer};
 ghost use Rattle.serde_json.specs.View.{items_of};
 ghost use Rattle.serde_json.specs.Written.{comma_if, compact_text, items_text};
 
-use itoa::Buffer;
-use mps_base::{Act, Message, Name, Role, Roles, Step, StepId, Value};
+use crate::pieces::{Decimal, put_name};
+use mps_base::{Act, Message, Name, Role, Roles, Step, Value};
 use std::alloc::AllocError;
 
 // Appends a JSON string of bytes that need no escapes: printable ASCII without quote and backslash. Out of memory is
@@ -44,16 +44,6 @@ pub(crate) fn put_comma(out: &mut Vec<u8>, later: bool) -> Result<(), AllocError
     Ok(())
 }
 
-// Appends a name as a JSON string: `put_string` with the fact that a name's bytes need no escapes. It fails only when
-// out of memory, and appends nothing then.
-#[inline(always)]
-fn put_name(out: &mut Vec<u8>, name: &Name) -> Result<(), AllocError>
-    ensures text { OnOk result (out.new.items ≡ out.old.items ++ compact_text (string name.now)) }
-    ensures plain { OnOk result (IsPlain (string name.now)) }
-{
-    put_string(out, name.as_bytes())
-}
-
 /// Appends the name of a role, which has to be one of `names`, as a JSON string. It fails only when out of memory, and
 /// appends nothing then.
 #[inline(always)]
@@ -65,23 +55,18 @@ pub(crate) fn put_role(out: &mut Vec<u8>, names: &Roles, role: Role) -> Result<(
     put_name(out, &names.name(role))
 }
 
-/// Appends the number of a step as a JSON number, in decimal. It fails only when out of memory, and appends nothing
-/// then.
+// Appends an integer as a JSON number, in decimal, with a `-` if it is below 0. When out of memory the `-` may stand in
+// `out` alone; the caller drops it.
 #[inline(always)]
-pub(crate) fn put_number(out: &mut Vec<u8>, id: StepId) -> Result<(), AllocError>
-    ensures { OnOk result (out.new.items ≡ out.old.items ++ compact_text (number_shown id)) }
-{
-    let mut digits = Buffer::new();
-    out.extend_from_slice(digits.format(id.number()).as_bytes())
-}
-
-// Appends an integer as a JSON number, in decimal, with a `-` if it is below 0. It fails only when out of memory, and
-// appends nothing then.
 fn put_int(out: &mut Vec<u8>, n: i64) -> Result<(), AllocError>
     ensures { OnOk result (out.new.items ≡ out.old.items ++ compact_text (number (of_integer n))) }
 {
-    let mut digits = Buffer::new();
-    out.extend_from_slice(digits.format(n).as_bytes())
+    if n < 0 {
+        out.push(b'-')?;
+    }
+    let mut digits = Decimal::new();
+    digits.set(n.unsigned_abs());
+    digits.put(out)
 }
 
 // Appends a value as JSON: a number, `true` or `false`, or a string, since a text's content needs no escapes. When out
@@ -101,6 +86,7 @@ fn put_value(out: &mut Vec<u8>, value: &Value) -> Result<(), AllocError>
 
 // Appends a message of a step as JSON: a label is a plain string, since the step's word tells it from a text. When out
 // of memory no clause says what `out` has; the caller drops it.
+#[inline(always)]
 fn put_moved(out: &mut Vec<u8>, message: &Message) -> Result<(), AllocError>
     ensures text { OnOk result (out.new.items ≡ out.old.items ++ compact_text (moved_shown message.now)) }
     ensures plain { OnOk result (IsPlain (moved_shown message.now)) }
@@ -135,20 +121,23 @@ fn put_label(out: &mut Vec<u8>, label: &Name) -> Result<(), AllocError>
 }
 
 /// Appends a step as a JSON array: number, role, word and arguments, and at the end the message that it gave or took.
-/// When out of memory a part may stand in `out`; the caller drops it.
+/// The caller has the number in decimal, since it may need it again. When out of memory a part may stand in `out`; the
+/// caller drops it.
 pub(crate) fn put_step(
     out: &mut Vec<u8>,
     names: &Roles,
     step: &Step,
+    number: &Decimal,
     moved: Option<&Message>,
 ) -> Result<(), AllocError>
-    requires { IsKnown (length names.now) step.now }
+    requires known { IsKnown (length names.now) step.now }
+    requires number { number.now ≡ decimal step.now.id }
     ensures text { OnOk result (out.new.items
         ≡ out.old.items ++ compact_text (step_shown names.now (step.now, option_copied moved.entry))) }
     ensures plain { OnOk result (IsPlain (step_shown names.now (step.now, option_copied moved.entry))) }
 {
     out.push(b'[')?;
-    put_number(out, step.id)?;
+    number.put(out)?;
     out.push(b',')?;
     put_role(out, names, step.role)?;
     put_act(out, names, &step.act, moved)

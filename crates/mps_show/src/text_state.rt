@@ -1,26 +1,33 @@
 //! The shown state, written as text at once.
-ghost use Rattle.std.specs.Prelude.{◌≡◌, ◌<◌, ◌++◌, ◌∷◌, [], ℕ, List, IfOk, OnOk, OnErr, length, map, codes, false};
+ghost use Rattle.std.specs.Prelude.{◌≡◌, ◌<◌, ◌++◌, ◌∷◌, [], ℕ, List, IfOk, OnOk, OnErr, length, map, replicate, codes};
+ghost use Rattle.std.specs.Prelude.{false};
 ghost use Rattle.std.specs.List.{flat_map, range_with_len};
 ghost use Rattle.mps_history.specs.Steps.{newest_of, numbers, steps_of};
 ghost use Rattle.mps_local.specs.Actions.{head};
 ghost use Rattle.mps_session.specs.SessionState.{session_view, moves_of};
 ghost use Rattle.mps_show.specs.Plain.{IsPlain, ArePlainItems, AreShown};
-ghost use Rattle.mps_show.specs.Private.Rows.{joined, behind, own_number};
+ghost use Rattle.mps_show.specs.Private.Rows.{joined, behind, past_text, ArePasts};
 ghost use Rattle.mps_show.specs.Shown.{row, role_name, step_shown, queue_shown, queues_from, queues_shown};
-ghost use Rattle.mps_show.specs.Shown.{waiting_shown, head_shown, number_shown, binding_shown, role_shown, roles_shown};
+ghost use Rattle.mps_show.specs.Shown.{waiting_shown, head_shown, binding_shown, role_shown, roles_shown};
 ghost use Rattle.mps_base.specs.Spaced.{spaced};
 ghost use Rattle.mps_show.specs.Shown.{head_tokens, newest_shown, shown, show_text, stand_text};
 ghost use Rattle.serde_json.specs.View.{items_of};
 ghost use Rattle.serde_json.specs.Written.{compact_text};
 
+use crate::past::Past;
+use crate::pieces::Decimal;
 use crate::text_heads::put_head;
-use crate::text_parts::{put_binding, put_comma, put_number, put_role, put_step, put_waiting};
-use mps_base::{Message, Role, Roles, Step};
+use crate::text_parts::{put_binding, put_comma, put_role, put_step, put_waiting};
+use mps_base::{Message, Role, Roles};
 use mps_session::{Queue, Session};
 use std::alloc::AllocError;
 
-/// Appends the state of the session as compact JSON: an object of its history, its queues and its roles. O(roles *
-/// steps). Out of memory is the only error, and leaves `out` unchanged: the text is made in a buffer of its own.
+// For how many bytes a step there is room in the beginning: more than steps with short names and numbers take.
+const STEP_BYTES: usize = 64;
+
+/// Appends the state of the session as compact JSON: an object of its history, its queues and its roles. O(steps). Out
+/// of memory is the only error, and leaves `out` unchanged: the text is made in a buffer of its own, which an empty
+/// `out` takes over.
 pub fn write_show(names: &Roles, session: &Session, out: &mut Vec<u8>) -> Result<(), AllocError>
     requires { length names.now ≡ length session.now.types }
     ensures text { OnOk result (out.new.items ≡ out.old.items
@@ -28,9 +35,14 @@ pub fn write_show(names: &Roles, session: &Session, out: &mut Vec<u8>) -> Result
     ensures shown { OnOk result (AreShown (show_text names.now session.now.types session.now.state.history)) }
     ensures err { OnErr result (out.new.items ≡ out.old.items) }
 {
-    // a buffer of its own: lack of memory midway leaves `out` as it was
-    let mut text = Vec::new(*out.allocator());
+    // a buffer of its own: lack of memory midway leaves `out` as it was; a product past the range is no room
+    let room = session.len().saturating_mul(STEP_BYTES);
+    let mut text = Vec::with_capacity(*out.allocator(), room)?;
     put_state(&mut text, names, session)?;
+    if out.is_empty() {
+        *out = text;
+        return Ok(());
+    }
     out.extend_from_slice(&text)
 }
 
@@ -88,7 +100,11 @@ fn put_newest(
     ensures plain { OnOk result (IsPlain (newest_shown names.now (newest_of role (moves_of session.now)))) }
 {
     match session.newest_of(role) {
-        Some((step, moved)) => put_step(out, names, step, moved),
+        Some((step, moved)) => {
+            let mut number = Decimal::new();
+            number.set(step.id.number());
+            put_step(out, names, step, &number, moved)
+        }
         None => out.extend_from_slice(b"null"),
     }
 }
@@ -101,28 +117,41 @@ fn put_state(out: &mut Vec<u8>, names: &Roles, session: &Session) -> Result<(), 
         ++ compact_text (shown names.now session.now.types session.now.state.history)) }
     ensures plain { OnOk result (IsPlain (shown names.now session.now.types session.now.state.history)) }
 {
+    let mut pasts = Past::of_roles(*out.allocator(), session.roles())?;
     out.extend_from_slice(b"{\"history\":")?;
-    put_history(out, names, session)?;
+    put_history(out, names, session, &mut pasts)?;
     out.extend_from_slice(b",\"queues\":")?;
     put_queues(out, names, session)?;
     out.extend_from_slice(b",\"roles\":")?;
-    put_roles(out, names, session)?;
+    put_roles(out, names, session, &pasts)?;
     Ok(out.push(b'}')?)
 }
 
-// Appends the surviving steps as a JSON array, in order. When out of memory a part may stand in `out`; the caller drops
-// it.
-fn put_history(out: &mut Vec<u8>, names: &Roles, session: &Session) -> Result<(), AllocError>
-    requires { length names.now ≡ length session.now.types }
-    ensures text { OnOk result (out.new.items ≡ out.old.items
-        ++ compact_text (row (map (step_shown names.now) (moves_of session.now)))) }
+// Appends the surviving steps as a JSON array, in order, and the number of each to its role's past. When out of memory
+// a part may stand in both; the caller drops them.
+fn put_history(
+    out: &mut Vec<u8>,
+    names: &Roles,
+    session: &Session,
+    pasts: &mut [Past],
+) -> Result<(), AllocError>
+    requires count { length names.now ≡ length session.now.types }
+    requires pasts { pasts.old ≡ replicate (length session.now.types) [] }
+    ensures text { OnOk result (out.new.items
+        ≡ out.old.items ++ compact_text (row (map (step_shown names.now) (moves_of session.now)))) }
     ensures plain { OnOk result (IsPlain (row (map (step_shown names.now) (moves_of session.now)))) }
+    ensures pasts { OnOk result (ArePasts pasts.new session.now.state.history) }
+    ensures count { length pasts.new ≡ length session.now.types }
 {
     out.push(b'[')?;
     let mut later = false;
+    let mut number = Decimal::new();
     for moved in session.moves() {
         put_comma(out, later)?;
-        put_step(out, names, moved.0, moved.1)?;
+        number.set(moved.0.id.number());
+        put_step(out, names, moved.0, &number, moved.1)?;
+        let past = &mut pasts[moved.0.role.index()];
+        past.put(&number)?;
         later = true;
     }
     Ok(out.push(b']')?)
@@ -236,8 +265,15 @@ fn put_messages(
 
 // Appends the roles as a JSON array, in their order in the session. When out of memory a part may stand in `out`; the
 // caller drops it.
-fn put_roles(out: &mut Vec<u8>, names: &Roles, session: &Session) -> Result<(), AllocError>
-    requires { length names.now ≡ length session.now.types }
+fn put_roles(
+    out: &mut Vec<u8>,
+    names: &Roles,
+    session: &Session,
+    pasts: &[Past],
+) -> Result<(), AllocError>
+    requires count { length names.now ≡ length session.now.types }
+    requires pasts { ArePasts pasts.now session.now.state.history }
+    requires each { length pasts.now ≡ length session.now.types }
     ensures text { OnOk result (out.new.items ≡ out.old.items
         ++ compact_text (row (roles_shown names.now session.now.types session.now.state.history))) }
     ensures plain { OnOk result (IsPlain (row (roles_shown names.now session.now.types session.now.state.history))) }
@@ -247,7 +283,7 @@ fn put_roles(out: &mut Vec<u8>, names: &Roles, session: &Session) -> Result<(), 
     // places of roles are below 8, so they fit
     for p in 0..n {
         put_comma(out, p > 0)?;
-        put_participant(out, names, session, Role::new(p as u8))?;
+        put_participant(out, names, session, Role::new(p as u8), &pasts[p])?;
     }
     Ok(out.push(b']')?)
 }
@@ -259,9 +295,11 @@ fn put_participant(
     names: &Roles,
     session: &Session,
     role: Role,
+    past: &Past,
 ) -> Result<(), AllocError>
     requires count { length names.now ≡ length session.now.types }
     requires role { role < length session.now.types }
+    requires past { past.now ≡ past_text role session.now.state.history }
     ensures text { OnOk result (out.new.items ≡ out.old.items ++ compact_text
         (role_shown names.now (numbers (steps_of role session.now.state.history)) role
         ((session_view session.now).participant role))) }
@@ -271,7 +309,7 @@ fn put_participant(
     out.extend_from_slice(b"{\"expects\":")?;
     put_expects(out, names, session, role)?;
     out.extend_from_slice(b",\"past\":")?;
-    put_past(out, session, role)?;
+    past.write(out)?;
     out.extend_from_slice(b",\"role\":")?;
     put_role(out, names, role)?;
     out.extend_from_slice(b",\"store\":")?;
@@ -297,34 +335,6 @@ fn put_expects(
     out.push(b'"')?;
     put_head(out, names, session, role)?;
     Ok(out.push(b'"')?)
-}
-
-// Appends the numbers of the role's surviving steps as a JSON array. O(steps of all roles). When out of memory a part
-// may stand in `out`; the caller drops it.
-fn put_past(out: &mut Vec<u8>, session: &Session, role: Role) -> Result<(), AllocError>
-    ensures { OnOk result (out.new.items ≡ out.old.items
-        ++ compact_text (row (map number_shown (numbers (steps_of role session.now.state.history))))) }
-{
-    out.push(b'[')?;
-    let mut later = false;
-    for moved in session.moves() {
-        later = put_own(out, role, moved.0, later)?;
-    }
-    Ok(out.push(b']')?)
-}
-
-// Appends the number of the step, if it is one of the role. `later` says whether a comma is due; the same is returned
-// for what comes next. When out of memory a comma may stand in `out` alone; the caller drops it.
-fn put_own(out: &mut Vec<u8>, role: Role, step: &Step, later: bool) -> Result<bool, AllocError>
-    ensures text { OnOk result (out.new.items ≡ out.old.items ++ joined later (own_number role step.now)) }
-    ensures behind { IfOk result (λ now. now ≡ behind later (own_number role step.now)) }
-{
-    if !step.role.is(role) {
-        return Ok(later);
-    }
-    put_comma(out, later)?;
-    put_number(out, step.id)?;
-    Ok(true)
 }
 
 // Appends the role's slots as a JSON array, each with its value, in the order in which they were first bound. When out

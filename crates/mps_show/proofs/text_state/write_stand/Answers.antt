@@ -7,7 +7,7 @@ use Rattle.mps_session.specs.SessionState.{session_view, moves_of}
 use Rattle.mps_show.specs.Plain.{AreShown}
 use Rattle.mps_show.specs.Shown.{row, head_shown, newest_shown, binding_shown, stand_shown}
 use Rattle.mps_show.proofs.Plain.{text_is_shown}
-use Rattle.mps_show.proofs.Rows.{then_more, on_ok}
+use Rattle.mps_show.proofs.Rows.{then_more}
 use Rattle.serde_json.specs.Written.{compact_text}
 use Rattle.mps_show.proofs.text_state.write_stand.Goals as goal
 
