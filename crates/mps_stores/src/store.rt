@@ -117,7 +117,9 @@ impl Store {
     {
         match older {
             Some(older) => {
-                if let Some(key) = self.keys.get_mut(name) {
+                if let Some(place) = self.place_among_few(name) {
+                    self.rebind(place, older);
+                } else if let Some(key) = self.keys.get_mut(name) {
                     *key = older;
                 }
             }
