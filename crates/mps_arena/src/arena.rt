@@ -101,6 +101,7 @@ impl Arena {
 
     /// Removes and returns a step that is the last of its role and, if it is a send or a choice, isn't received. O(1);
     /// it does not allocate. The number is never given out again, the key is the next to be used.
+    #[inline(always)]
     pub fn remove(&mut self, key: Key) -> Step
         requires { CanGo self.old.keyed_steps key }
         ensures step { option_map (λ e. e.step) (keyed_at key self.old.keyed_steps) ≡ Some result }

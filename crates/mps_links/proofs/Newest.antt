@@ -8,7 +8,7 @@ use Rattle.mps_history.specs.Steps.{IsIn, IsRising}
 use Rattle.mps_history.specs.Dependence.{depends_on}
 use Rattle.mps_history.proofs.Order.{rising_apart, IsIn-append, IsIn-append_left, IsIn-append_right}
 use Rattle.mps_arena.specs.Keys.{first_key, last_key}
-use Rattle.mps_arena.specs.KeyedSteps.{KeyedStep, steps, keys_of, of_role, AreSound, IsSmall}
+use Rattle.mps_arena.specs.KeyedSteps.{KeyedStep, steps, keys_of, any_step, of_role, AreSound, IsSmall}
 use Rattle.mps_arena.specs.Neighbours.{CanGo}
 use Rattle.mps_arena.proofs.KeyLists.{last-append}
 use Rattle.mps_arena.proofs.Chains.{keys_around}
@@ -33,6 +33,15 @@ spread_left a b m = grind arith
 
 pub where_in : (es a b : List KeyedStep) (x : KeyedStep) (t : Step) → es ≡ a ++ x ∷ b → IsIn t (steps es) → IsIn t (steps a) ⊎ ((t ≡ x.step) ⊎ IsIn t (steps b))
 where_in es a b x t e i = IsIn-append t (steps a) (x.step ∷ steps b) (subst (λ (l : List Step). IsIn t l) (ap steps e ∙ steps_around a b x) i)
+
+-- the newest step of all is the newest marked one where it is marked
+pub newest_of_all : (es : List KeyedStep) → AreSound es → (a b : List KeyedStep) (x : KeyedStep) → es ≡ a ++ x ∷ b → keys_of any_step b ≡ [] → x.marked ≡ true → last_key None (marked_keys es) ≡ Some x.key
+newest_of_all es sound a b x parts none m =
+    let q = λ (s : Step). is_marked es s.id in
+    let rest : keys_of q b ≡ [] = keys_none q b (λ t i. absurd (both_ways true (none_passes any_step b t none i) refl)) in
+    let here : is_marked es x.step.id ≡ true = marked_here es a b x sound.rising parts ∙ m in
+    let all : marked_keys es ≡ keys_of q es = sym (keys_marked es sound.rising) in
+    grind (arith, all, keys_around, here, rest, last-append)
 
 module _ (es : List KeyedStep) (sound : AreSound es) (closed : AreMarksClosed es) where
   abbrev mark : ℕ → Bool

@@ -1,5 +1,5 @@
 //! Marked steps: a step and all that depends on it, the newest marked one, and all marks taken off.
-ghost use Rattle.std.specs.Prelude.{◌≡◌, ◌<◌, ◌==◌, ◌&&◌, map, length, [], None, IsSome, IfSome};
+ghost use Rattle.std.specs.Prelude.{◌≡◌, ◌<◌, ◌==◌, ◌&&◌, map, length, [], None, Some, IsSome, IfSome};
 ghost use Rattle.mps_history.specs.Steps.{step_of, within};
 ghost use Rattle.mps_history.specs.Dependence.{consequences};
 ghost use Rattle.mps_arena.specs.Keys.{last_key};
@@ -66,8 +66,21 @@ fn newest_marked_of(arena: &Arena, role: Role) -> Option<NumberedKey>
     with_number(arena, Some(key))
 }
 
+// The newest step of all, where it is marked: then none that is marked is newer. `None` says nothing. O(1).
+fn newest_if_marked(arena: &Arena) -> Option<Key>
+    ensures { IfSome result (λ key. last_key None (marked_keys arena.now.keyed_steps) ≡ Some key) }
+{
+    let key = arena.last()?;
+    // for the proof alone
+    steps_are_sound(arena);
+    if !arena.marked(key) {
+        return None;
+    }
+    Some(key)
+}
+
 /// The newest marked step, or `None`, where marks are closed. So nothing depends on it, and it may be removed. O(1):
-/// the last steps of 8 roles are compared.
+/// where an unmarked step is newer, the last steps of 8 roles are compared.
 pub fn newest_marked(arena: &Arena) -> Option<Key>
     requires closed { AreMarksClosed arena.now.keyed_steps }
     ensures newest { result ≡ last_key None (marked_keys arena.now.keyed_steps) }
@@ -76,6 +89,9 @@ pub fn newest_marked(arena: &Arena) -> Option<Key>
 {
     // for the proof alone
     steps_are_sound(arena);
+    if let Some(key) = newest_if_marked(arena) {
+        return Some(key);
+    }
     let mut newest = None;
     for role in 0..8 {
         newest = later(newest, newest_marked_of(arena, Role::new(role)));

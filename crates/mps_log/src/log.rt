@@ -50,6 +50,7 @@ impl Model for Log {
 
 // Before a step is removed, undoes its binding: its name, if it binds one, is bound again to what it was before. For
 // slots and for marks alike, so apart from `give_back`.
+#[inline(always)]
 fn unbind(stores: &mut Stores, arena: &Arena, key: Key, name: Option<&Name>)
     requires can { CanGo arena.now.keyed_steps key }
     requires sound { AreSound arena.now.keyed_steps }
@@ -65,6 +66,7 @@ fn unbind(stores: &mut Stores, arena: &Arena, key: Key, name: Option<&Name>)
 // Before a step is removed, undoes its effect on queues and stores: a send's message leaves its queue, a receipt's is
 // in front of it again, and the step's name is bound again as before. The fields come one by one, since the arena is
 // borrowed beside them.
+#[inline(always)]
 fn give_back(queues: &mut Queues, slots: &mut Stores, marks: &mut Stores, arena: &Arena, key: Key)
     requires can { CanGo arena.now.keyed_steps key }
     requires sound { AreSound arena.now.keyed_steps }
@@ -352,6 +354,7 @@ impl Log {
     /// Removes and returns a step that is the last of its role and, if it is a send or a choice, isn't received. Its
     /// effect on queue, slot and mark is undone too. It does not allocate, and can't fail. O(1), but O(names) where a
     /// slot or a mark is bound no more, to keep the order of the others.
+    #[inline(always)]
     pub fn remove(&mut self, key: Key) -> Step
         requires { CanGo self.old.keyed_steps key }
         ensures step { option_map (λ e. e.step) (keyed_at key self.old.keyed_steps) ≡ Some result }

@@ -58,10 +58,10 @@ fn returned_front(arena: &Arena, last: Option<Key>, front: Link) -> Link
 fn dropped_front(last: Option<Key>, front: Link) -> Link
     ensures { result ≡ dropped last front }
 {
-    match (last, front.key()) {
-        (Some(last), Some(first)) => { if last.is(first) { Link::none() } else { front } }
-        (None, _) => front,
-        (Some(_), None) => Link::none(),
+    if front.key() == last {
+        Link::none()
+    } else {
+        front
     }
 }
 

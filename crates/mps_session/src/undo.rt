@@ -85,6 +85,7 @@ impl Configuration {
 
     /// Removes a step that is the last of its role and, if it is a send or a choice, isn't received, moves its role
     /// back to the node from before it, and returns its number. It does not allocate, and can't fail.
+    #[inline(always)]
     pub(crate) fn remove(&mut self, key: Key) -> StepId
         requires can { CanGo (lists_of self.old).keyed_steps key }
         requires role { IfSome (keyed_at key (lists_of self.old).keyed_steps)
@@ -96,8 +97,9 @@ impl Configuration {
     {
         let role = self.log.get(key).role;
         let node = Node::new(self.log.before(key).at);
+        let id = self.log.remove(key).id;
         self.stand_at(role, node);
-        self.log.remove(key).id
+        id
     }
 }
 

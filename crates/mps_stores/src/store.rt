@@ -115,6 +115,20 @@ impl Store {
     pub(crate) fn unbind(&mut self, name: &Name, older: Option<Key>)
         ensures { self.new ≡ unbound name.now older self.old }
     {
+        if let Some(older) = older {
+            if let Some(place) = self.place_among_few(name) {
+                self.rebind(place, older);
+                return;
+            }
+        }
+        self.unbind_by_hash(name, older);
+    }
+
+    // `unbind` for a store of any size. Apart, so that what most undos need is inlined where a step is removed.
+    #[inline(never)]
+    fn unbind_by_hash(&mut self, name: &Name, older: Option<Key>)
+        ensures { self.new ≡ unbound name.now older self.old }
+    {
         match older {
             Some(older) => {
                 if let Some(key) = self.keys.get_mut(name) {

@@ -47,3 +47,7 @@ returns-clause-free c =
 
 pub returns-clause-none : goal.returns-clause-none
 returns-clause-none c none = nothing_last (marked_keys c.args.arena.now.keyed_steps) (sym (returns-clause-newest c) ∙ none)
+
+pub returns-in-Some-clause-free : goal.returns-in-Some-clause-free
+returns-in-Some-clause-free c =
+    newest_can_go c.args.arena.now.keyed_steps c.steps_are_sound.ensures c.requires.closed c.in-Some.key c.in-Some.ensures
