@@ -35,7 +35,7 @@ pub fn write_show(names: &Roles, session: &Session, out: &mut Vec<u8>) -> Result
     ensures shown { OnOk result (AreShown (show_text names.now session.now.types session.now.state.history)) }
     ensures err { OnErr result (out.new.items ≡ out.old.items) }
 {
-    // a buffer of its own: lack of memory midway leaves `out` as it was; a product past the range is no room
+    // a buffer of its own: lack of memory midway leaves `out` as it was; at 100,000 steps nothing saturates
     let room = session.len().saturating_mul(STEP_BYTES);
     let mut text = Vec::with_capacity(*out.allocator(), room)?;
     put_state(&mut text, names, session)?;
