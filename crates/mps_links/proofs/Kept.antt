@@ -1,15 +1,12 @@
 -- Pending keys keep their numbers.
-use Rattle.std.proofs.Common.{◌≡◌, ℕ, Bool, List, [], ◌∷◌, Option, Some, None, refl, map, length, ◌<◌, ◌+◌, zero, suc, take, arith}
+use Rattle.std.proofs.Common.{◌≡◌, ℕ, Bool, List, [], ◌∷◌, Option, Some, None, refl, map, length, ◌<◌, zero, suc, sym, ap, ◌∙◌, arith}
 use Rattle.std.specs.Prelude.{◌==◌, slice_index_or, slice_set}
 use Rattle.std.specs.Option.{option_map, unwrap_or}
 use Rattle.std.proofs.lemmas.Bool.{cases_Bool}
-use Rattle.std.proofs.lemmas.List.{map_more}
-use Rattle.std.proofs.lemmas.List.Sums.{fold-append}
+use Rattle.std.proofs.lemmas.List.{get_or-map}
 use Rattle.mps_arena.specs.KeyedSteps.{KeyedStep, with_mark}
 use Rattle.mps_arena.specs.Neighbours.{id_in}
 use Rattle.mps_links.specs.Private.Numbered.{key_of, keys_alone, HasNumber, HaveNumbers}
-use Rattle.mps_links.specs.Private.Order.{earlier}
-use Rattle.mps_links.specs.Private.Pending.{earliest}
 use Rattle.mps_links.specs.declared.order.NumberedKey.{NumberedKey}
 
 pub number_at : (es : List KeyedStep) (l : List (Option NumberedKey)) (i : ℕ) (d : Option NumberedKey) → i < length l → HaveNumbers es l → HasNumber es (slice_index_or l i d)
@@ -36,12 +33,13 @@ pub role_is : (o : Option KeyedStep) (r : ℕ) (l : List (Option ℕ)) (f : Opti
     → unwrap_or (option_map (λ e. slice_set l e.step.role (f (slice_index_or l e.step.role None))) o) l ≡ slice_set l r (f (slice_index_or l r None))
 role_is o r l f is = grind arith
 
--- none comes before another
-pub earlier_none : (es : List KeyedStep) (o : Option ℕ) → earlier es o None ≡ o
-earlier_none es None = refl
-earlier_none es (Some j) = refl
+-- the key of what is there, and of nothing none
+pub key_there : (l : List (Option NumberedKey)) (i : ℕ) (d : Option NumberedKey) (n : NumberedKey) (k : ℕ) → i < length l → slice_index_or l i d ≡ Some n → slice_index_or (keys_alone l) i None ≡ Some k → n.key ≡ k
+key_there l i d n k small is first = let one : Some n.key ≡ Some k = sym (ap key_of is) ∙ sym (get_or-map key_of l i d None small) ∙ first in cc
 
--- one more is looked at
-pub one_more : (es : List KeyedStep) (l : List (Option NumberedKey)) (i : ℕ) (d : Option NumberedKey) → i < length l
-    → earliest es (keys_alone (take (i + 1) l)) ≡ earlier es (earliest es (keys_alone (take i l))) (key_of (slice_index_or l i d))
-one_more es l i d small = cc (map_more key_of l i d small, fold-append (earlier es) None (keys_alone (take i l)) (key_of (slice_index_or l i d) ∷ []))
+pub no_key_there : (l : List (Option NumberedKey)) (i : ℕ) (d : Option NumberedKey) (k : ℕ) → i < length l → ((n : NumberedKey) → slice_index_or l i d ≡ Some n → ⊥) → slice_index_or (keys_alone l) i None ≡ Some k → ⊥
+no_key_there l i d k small absent first = by_cases (slice_index_or l i d) refl
+  where
+    by_cases : (o : Option NumberedKey) → slice_index_or l i d ≡ o → ⊥
+    by_cases None e = let none : None ≡ Some k = sym (ap key_of e) ∙ sym (get_or-map key_of l i d None small) ∙ first in absurd cc
+    by_cases (Some n) e = absent n e

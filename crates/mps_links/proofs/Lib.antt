@@ -11,7 +11,10 @@ pub mod Links
 pub mod Marked
 pub mod Newest
 pub mod Unmarking
-pub mod Passing
+pub mod MarkedLinks
+pub mod Counting
+pub mod Spreading
+pub mod Ends
 pub mod Turns
 pub mod Going
 pub mod Waiting

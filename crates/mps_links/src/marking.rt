@@ -10,13 +10,13 @@ ghost use Rattle.mps_links.specs.Private.Numbered.{key_of, HasNumber};
 ghost use Rattle.mps_links.specs.Private.RoleMarks.{unmarked_of, AreLastMarked};
 
 use crate::order::{NumberedKey, key_of, later, with_number};
-use crate::pending::Pending;
+use crate::pending::{Pending, unmarked_next};
 use mps_arena::{Arena, Key, steps_are_sound};
 use mps_base::{Role, StepId};
 
-/// Marks the step of that number and all that depend on it, its causal future, and returns how many. It goes from link
-/// to link, the oldest first, and does not allocate. Unproved: O(marked steps), it looks at none that it doesn't mark,
-/// but at the next of each role.
+/// Marks the step of that number and all that depend on it, its causal future, and returns how many. It goes along a
+/// role's steps, then from the first receipt of another role on, and does not allocate. Unproved: O(marked steps), it
+/// looks at none that it doesn't mark.
 pub fn mark_from(arena: &mut Arena, id: StepId) -> usize
     requires present { IsSome (step_of (steps arena.old.keyed_steps) id) }
     requires unmarked { marked_keys arena.old.keyed_steps ≡ [] }
@@ -32,16 +32,16 @@ pub fn mark_from(arena: &mut Arena, id: StepId) -> usize
     let len = arena.len();
     // the clause `present` says that there is one
     let first = arena.by_id(id).unwrap();
+    let mut walk = Some(first);
     let mut pending = Pending::new();
-    pending.follow(arena, first);
-    arena.set_mark(first, true);
     // one more is marked in each round; after the last all are
-    for count in 1..len {
+    for count in 0..len {
         // for the proof alone
         steps_are_sound(arena);
-        let Some(key) = pending.earliest() else {
+        let Some(key) = pending.next(arena, walk) else {
             return count;
         };
+        walk = unmarked_next(arena, key);
         pending.follow(arena, key);
         arena.set_mark(key, true);
     }

@@ -1,11 +1,12 @@
 //! What is still to be marked.
-ghost use Rattle.std.specs.Prelude.{◌≡◌, ◌<◌, List, IsSome, Some, None, length, replicate};
+ghost use Rattle.std.specs.Prelude.{◌≡◌, ◌⊎◌, ◌<◌, List, IsSome, IfSome, Some, None, length, replicate};
 ghost use Rattle.std.specs.Option.{option_map};
 ghost use Rattle.mps_arena.specs.KeyedSteps.{KeyedStep, keyed_at};
+ghost use Rattle.mps_arena.specs.Neighbours.{next_of_role_in, receipt_in};
 ghost use Rattle.mps_links.specs.Private.Numbered.{keys_alone, HaveNumbers};
-ghost use Rattle.mps_links.specs.Private.Pending.{followed, earliest};
+ghost use Rattle.mps_links.specs.Private.Pending.{unless_marked, with_receipt, IsUnmarkedFirst, AreFirstsMarked};
 
-use crate::order::{NumberedKey, earlier, key_of, with_number};
+use crate::order::{NumberedKey, earlier, with_number};
 use mps_arena::{Arena, Key, steps_are_sound};
 
 // The place, from 0, of the role whose step has the key, as an index of arrays; the step has to be there.
@@ -19,15 +20,23 @@ fn role_at(arena: &Arena, key: Key) -> usize
     arena.get(key).role.index()
 }
 
-/// The frontier of the walk in `mark_from`: for each role its first step that isn't marked and depends directly on a
-/// marked one.
+/// The role's next step after that of the key, or `None` where there is none, or it is marked. O(1).
+pub(crate) fn unmarked_next(arena: &Arena, key: Key) -> Option<Key>
+    ensures { result ≡ unless_marked arena.now.keyed_steps (next_of_role_in arena.now.keyed_steps key) }
+{
+    let next = arena.next_of_role(key)?;
+    if arena.marked(next) { None } else { Some(next) }
+}
+
+/// Of each role the first receipt of a marked send, in `mark_from`. All of the role's steps from there on depend on a
+/// marked step. It may be marked already.
 #[derive(Drop)]
 pub(crate) struct Pending {
     firsts: [Option<NumberedKey>; 8],
 }
 
 impl Pending {
-    /// The frontier before any step is marked: empty. It is kept inline, and does not allocate.
+    /// What is pending before any step is marked: no receipt. It is kept inline, and does not allocate.
     pub(crate) fn new() -> Pending
         ensures size { length result.firsts ≡ 8 }
         ensures keys { keys_alone result.firsts ≡ replicate 8 None }
@@ -36,37 +45,51 @@ impl Pending {
         Pending { firsts: [None; 8] }
     }
 
-    /// The key of the step of the frontier with the least number, or `None` where it is empty. O(1): 8 roles are
-    /// compared.
-    pub(crate) fn earliest(&self) -> Option<Key>
+    /// The step that is to be marked next: that at which the walk through a role's steps stands or, where it has
+    /// ended, a first receipt; `None` where all are marked. O(1): 8 receipts are looked at.
+    #[inline(always)]
+    pub(crate) fn next(&self, arena: &Arena, walk: Option<Key>) -> Option<Key>
         requires size { length self.now.firsts ≡ 8 }
-        ensures { (es : List KeyedStep) → HaveNumbers es self.now.firsts
-            → result ≡ earliest es (keys_alone self.now.firsts) }
+        requires numbers { HaveNumbers arena.now.keyed_steps self.now.firsts }
+        ensures next { IfSome result (λ k. walk ≡ Some k
+            ⊎ (walk ≡ None) × IsUnmarkedFirst arena.now.keyed_steps (keys_alone self.now.firsts) k) }
+        ensures ended { result ≡ None → walk ≡ None }
+        ensures none { result ≡ None → AreFirstsMarked arena.now.keyed_steps (keys_alone self.now.firsts) }
     {
-        let mut first = None;
-        for pending in &self.firsts {
-            // most are `None` where few roles act
-            if pending.is_some() {
-                first = earlier(first, *pending);
-            }
+        match walk {
+            Some(key) => Some(key),
+            None => self.unmarked(arena),
         }
-        key_of(first)
     }
 
-    /// Moves the frontier past a step that is being marked, the earliest of it: its role's next step comes in its
-    /// place, and its receipt is one more candidate for the role that received. O(1).
+    // A first receipt that isn't marked, or `None`. O(1): those of 8 roles are looked at.
+    fn unmarked(&self, arena: &Arena) -> Option<Key>
+        requires size { length self.now.firsts ≡ 8 }
+        requires numbers { HaveNumbers arena.now.keyed_steps self.now.firsts }
+        ensures first { IfSome result
+            (IsUnmarkedFirst arena.now.keyed_steps (keys_alone self.now.firsts)) }
+        ensures none { result ≡ None → AreFirstsMarked arena.now.keyed_steps (keys_alone self.now.firsts) }
+    {
+        for role in 0..8usize {
+            if let Some(first) = self.firsts[role] {
+                if !arena.marked(first.key) {
+                    return Some(first.key);
+                }
+            }
+        }
+        None
+    }
+
+    /// Takes note of the receipt of a step that is being marked, if it has one: the earlier one of its role stays. O(1).
     #[inline(always)]
     pub(crate) fn follow(&mut self, arena: &Arena, key: Key)
         requires size { length self.old.firsts ≡ 8 }
-        requires present { IsSome (keyed_at key arena.now.keyed_steps) }
         requires numbers { HaveNumbers arena.now.keyed_steps self.old.firsts }
         ensures size { length self.new.firsts ≡ 8 }
         ensures keys { keys_alone self.new.firsts
-            ≡ followed arena.now.keyed_steps key (keys_alone self.old.firsts) }
+            ≡ with_receipt arena.now.keyed_steps (receipt_in arena.now.keyed_steps key) (keys_alone self.old.firsts) }
         ensures numbers { HaveNumbers arena.now.keyed_steps self.new.firsts }
     {
-        let role = role_at(arena, key);
-        self.firsts[role] = with_number(arena, arena.next_of_role(key));
         if let Some(receipt) = arena.receipt(key) {
             let role = role_at(arena, receipt);
             let receipt = with_number(arena, Some(receipt));
