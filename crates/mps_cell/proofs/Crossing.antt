@@ -17,7 +17,7 @@ use Rattle.mps_local.specs.contracts.Local as local
 use Rattle.mps_session.proofs.configuration.Configuration.TheSendSync as configuration
 use Rattle.mps_session.specs.contracts.session.Session as session
 use Rattle.mps_session.specs.contracts.session.Session.TheInside as session_inside
-use Rattle.mps_room.proofs.narrow_entry.NarrowEntry.TheSendSync as narrow_entry
+use Rattle.mps_room.proofs.journal.Journal.TheSendSync as journal
 use Rattle.mps_room.proofs.heard.Heard.TheSendSync as heard
 use Rattle.mps_room.proofs.numbers.Numbers.TheSendSync as numbers
 use Rattle.mps_room.proofs.steps.Steps.TheSendSync as steps
@@ -43,7 +43,7 @@ session_send = search (view_send, session_inside_send)
 room_inside_send : IsSend room_inside.the_row
 room_inside_send = declared_send room_inside.the_type (
   search (sendable, roles.the_send),
-  (search (sendable, session_send), (search (sendable, crosses, narrow_entry.the_send), (search (sendable, steps.the_send), (search (sendable, heard.the_send), (search (sendable, heap.send), tt))))),
+  (search (sendable, session_send), (search (sendable, journal.the_send), (search (sendable, steps.the_send), (search (sendable, heard.the_send), (search (sendable, heap.send), tt))))),
 )
 
 pub room_send : IsSend room.the_row

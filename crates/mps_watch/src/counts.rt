@@ -53,8 +53,8 @@ impl Answers {
     }
 }
 
-// How many shares a tally has, and how many counts stand in each: threads that count in different ones don't share a line of
-// the processor's memory.
+// How many shares a tally has, and how many counts stand in each, at least one more than there are words: threads that count in
+// different ones write to different lines of the processor's cache.
 const SHARES: usize = 8;
 
 const SHARE: usize = 24;
@@ -63,7 +63,7 @@ const SHARE: usize = 24;
 #[derive(Drop)]
 pub struct Tally {
     answers: Answers,
-    // in each share of each word, then of the others
+    // share by share: one for each word, then one for all others
     counts: Vec<Count>,
 }
 
@@ -83,7 +83,8 @@ impl Tally {
         let place = words
             .iter()
             .position(|known| known.as_bytes() == word)
-            .unwrap_or(words.len());
+            .unwrap_or(words.len())
+            .min(SHARE - 1);
         let share = (connection % SHARES as u64) as usize;
         if let Some(count) = self.counts.get(share * SHARE + place) {
             count.add(1);
