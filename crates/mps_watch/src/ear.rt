@@ -79,13 +79,20 @@ impl<'w, R: Eprint> Ear<'w, R> {
 
     /// These bytes went through, after those before them.
     pub fn hear(&mut self, bytes: &[u8]) {
+        // lines of a client are told, and not counted
+        if self.side == Side::Lines && !self.watch.tells_lines() {
+            return;
+        }
         let mut rest = bytes;
-        while let Some(end) = memchr(b'\n', rest) {
+        while !rest.is_empty() {
+            let Some(end) = memchr(b'\n', rest) else {
+                self.keep(rest);
+                return;
+            };
             let (piece, more) = rest.split_at(end);
             self.end_line(piece);
             rest = &more[1..];
         }
-        self.keep(rest);
     }
 
     // Keeps a piece of a line, as far as it is told. Where there is no memory for it, less is.
@@ -102,8 +109,10 @@ impl<'w, R: Eprint> Ear<'w, R> {
             return;
         }
         self.keep(piece);
-        let line = mem::replace(&mut self.line, Vec::new(self.watch.alloc));
+        let mut line = mem::replace(&mut self.line, Vec::new(self.watch.alloc));
         self.hear_line(line.as_slice());
+        line.clear();
+        self.line = line;
     }
 
     // A whole line went through.
@@ -117,16 +126,23 @@ impl<'w, R: Eprint> Ear<'w, R> {
             Side::Lines => {}
         }
         if self.begun && self.watch.tells_lines() {
-            let event = match self.side {
-                Side::Lines => "line",
-                Side::Answers => "answer",
-            };
-            self.watch.line(self.rt, event, self.connection, line);
+            self.tell(line);
         }
         self.begun = true;
     }
 
-    // The first line was answered.
+    // Tells a line, or an answer. Not inlined, so that one that is only counted needs no space for it.
+    #[inline(never)]
+    fn tell(&self, line: &[u8]) {
+        let event = match self.side {
+            Side::Lines => "line",
+            Side::Answers => "answer",
+        };
+        self.watch.line(self.rt, event, self.connection, line);
+    }
+
+    // The first line was answered. Not inlined, as `tell`.
+    #[inline(never)]
     fn answer_first(&mut self, line: &[u8]) {
         self.watch.counts.joins.add(self.connection, word_of(line));
         self.joined = joined_by(self.watch.alloc, line);

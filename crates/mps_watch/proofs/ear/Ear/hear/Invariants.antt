@@ -2,5 +2,5 @@
 use Rattle.std.proofs.Common.{length}
 use Rattle.mps_watch.proofs.ear.Ear.hear.Given as goal
 
-abbrev pub decreases-loop-end : goal.decreases-loop-end
-decreases-loop-end g l = length l.rest
+abbrev pub decreases-loop-rest : goal.decreases-loop-rest
+decreases-loop-rest g l = length l.rest
