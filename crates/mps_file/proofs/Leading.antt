@@ -1,5 +1,5 @@
 -- A new room that lines led on.
-use Rattle.std.proofs.Common.{◌≡◌, ℕ, List, [], Result, Ok, Err, ap, subst, ◌∙◌}
+use Rattle.std.proofs.Common.{◌≡◌, ℕ, List, Result, Ok, Err, ap, subst, ◌∙◌}
 use Rattle.std.specs.Prelude.{IfOk, OnOk}
 use Rattle.mps_local.specs.Local.{LocalType}
 use Rattle.mps_keeper.specs.Restored.{LinesRestored, standing_of}

@@ -1,11 +1,10 @@
 -- What restoring leaves the roles.
-use Rattle.std.proofs.Common.{◌≡◌, ℕ, List, [], ◌∷◌, sym, subst}
+use Rattle.std.proofs.Common.{ℕ, List, [], ◌∷◌, sym, subst}
 use Rattle.std.specs.Prelude.{All, Option, None, Some}
 use Rattle.std.proofs.lemmas.List.Elements.{All-set}
 use Rattle.mps_command.specs.declared.command.Command.{Command}
 use Rattle.mps_local.specs.Local.{LocalType}
-use Rattle.mps_room.specs.declared.numbers.Numbered.{Numbered}
-use Rattle.mps_keeper.specs.Restored.{KeepsAccepted, IsCalled, LinesRestored, Standing, kept_after}
+use Rattle.mps_keeper.specs.Restored.{KeepsAccepted, IsCalled, LinesRestored, Standing}
 
 module _ (names : List (List ℕ)) (types : List LocalType) where
   called_keeps : (before after : Standing) (role : ℕ) (number : Option ℕ) (command : Command) → All KeepsAccepted before.newest → IsCalled names types before role number command after → All KeepsAccepted after.newest

@@ -1,8 +1,7 @@
 -- What was recorded of a legal journal, restored.
 use Rattle.std.proofs.Common.{◌≡◌, ℕ, List, [], ◌∷◌, ◌++◌, sym, ap, ◌∙◌, append_assoc, append-nil}
-use Rattle.std.specs.Prelude.{Option, None, get_or}
+use Rattle.std.specs.Prelude.{Option}
 use Rattle.mps_base.specs.RoleLists.{AreDistinct}
-use Rattle.mps_command.specs.declared.answer.Answer.{Answer}
 use Rattle.mps_command.specs.declared.command.Command.{Command}
 use Rattle.mps_line.specs.JournalLines.{SpellsJournalLine}
 use Rattle.mps_local.specs.Local.{LocalType}

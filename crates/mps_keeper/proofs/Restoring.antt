@@ -18,7 +18,7 @@ use Rattle.std.proofs.lemmas.Grind.{flat_map-append}
 use Rattle.std.proofs.lemmas.List.{take_rest, take_more, take-append-drop}
 use Rattle.mps_lines.specs.Lines.{HasNoBreak, ended}
 use Rattle.mps_local.specs.Local.{LocalType}
-use Rattle.mps_keeper.specs.Restored.{Standing, IsCalled, IsNext, kept_after, LineRefused, LineRestored, LinesRestored}
+use Rattle.mps_keeper.specs.Restored.{Standing, IsCalled, IsNext, kept_after, LineRefused, LinesRestored}
 use Rattle.mps_keeper.specs.RestoredFaults.{ReadsMore, of_reading, AreRestored, IsUncalled, IsUnspelled, IsFirstFault, IsBodyFault, IsFaulty, IsNextRestored}
 use Rattle.mps_keeper.specs.Chains.{Reads, ReadsAll, in_front}
 use Rattle.mps_keeper.specs.declared.chain.Chain.{Chain}

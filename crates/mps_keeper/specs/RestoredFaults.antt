@@ -1,5 +1,5 @@
 -- What restoring comes to.
-use Rattle.std.specs.Prelude.{◌≡◌, ◌⊎◌, ℕ, ◌+◌, false, List, [], ◌∷◌, ◌++◌, length, Option, Some}
+use Rattle.std.specs.Prelude.{◌≡◌, ◌⊎◌, ℕ, ◌+◌, false, List, [], ◌++◌, length, Option, Some}
 use Rattle.std.specs.List.{flat_map}
 use Rattle.mps_command.specs.declared.command.Command.{Command}
 use Rattle.mps_line.specs.declared.read_commands.LineFault.{LineFault}

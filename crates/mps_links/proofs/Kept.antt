@@ -14,11 +14,6 @@ number_at es [] i d small h = absurd (omega arith)
 number_at es (x ∷ l) zero d small h = h.0
 number_at es (x ∷ l) (suc i) d small h = number_at es l i d (omega arith) h.1
 
-pub numbers_set : (es : List KeyedStep) (l : List (Option NumberedKey)) (i : ℕ) (n : Option NumberedKey) → HaveNumbers es l → HasNumber es n → HaveNumbers es (slice_set l i n)
-numbers_set es [] i n h own = tt
-numbers_set es (x ∷ l) zero n h own = (own, h.1)
-numbers_set es (x ∷ l) (suc i) n h own = (h.0, numbers_set es l i n h.1 own)
-
 -- a mark changes no number
 pub id_marked : (k : ℕ) (m : Bool) (j : ℕ) (es : List KeyedStep) → id_in (map (with_mark k m) es) j ≡ id_in es j
 id_marked k m j [] = refl

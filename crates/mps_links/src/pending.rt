@@ -29,7 +29,7 @@ pub(crate) fn unmarked_next(arena: &Arena, key: Key) -> Option<Key>
 }
 
 /// Of each role the first receipt of a marked send, in `mark_from`. All of the role's steps from there on depend on a
-/// marked step. It may be marked already.
+/// marked step. Such a receipt may be marked already.
 #[derive(Drop)]
 pub(crate) struct Pending {
     firsts: [Option<NumberedKey>; 8],

@@ -81,8 +81,8 @@ fn give_back(queues: &mut Queues, slots: &mut Stores, marks: &mut Stores, arena:
     match &step.act {
         Act::Out { to, .. } => queues.drop_last(arena, step.role, *to),
         Act::In { from, slot } => {
-            queues.put_back(arena, *from, step.role);
             unbind(slots, arena, key, slot.as_ref());
+            queues.put_back(arena, *from, step.role);
         }
         Act::Mark(name) => unbind(marks, arena, key, Some(name)),
         Act::Commit => {}

@@ -58,10 +58,9 @@ fn returned_front(arena: &Arena, last: Option<Key>, front: Link) -> Link
 fn dropped_front(last: Option<Key>, front: Link) -> Link
     ensures { result ≡ dropped last front }
 {
-    if front.key() == last {
-        Link::none()
-    } else {
-        front
+    match (last, front.key()) {
+        (Some(last), Some(first)) if last.is(first) => Link::none(),
+        _ => front,
     }
 }
 

@@ -1,6 +1,5 @@
 -- What a kept entry says stays as it is when words and lists join.
 use Rattle.std.proofs.Common.{◌≡◌, ℕ, ◌+◌, ◌≤◌, List, [], ◌∷◌, ◌++◌, length, take, drop, map, refl, ap, ◌∙◌, arith, length-append}
-use Rattle.std.proofs.Math.Seq.{drop-append_seam, take-length}
 use Rattle.std.proofs.lemmas.List.{drop-append-le, take-append-le, length-drop, get_or_append_left, map-append}
 use Rattle.std.specs.List.{AllByRecursion}
 use Rattle.mps_room.specs.Private.Forms.{cut, narrow_in, lists_of, HasWord, HasList, AreForms}
@@ -12,10 +11,6 @@ pub cut_more : (words more : List ℕ) (start size : ℕ) → start + size ≤ l
 cut_more words more start size few =
     ap (take size) (drop-append-le start words more (omega (arith, few)))
     ∙ take-append-le size (drop start words) more (omega (arith, few, length-drop start words))
-
--- a word that joins is there
-pub cut_last : (words more : List ℕ) → cut (words ++ more) (length words) (length more) ≡ more
-cut_last words more = ap (take (length more)) (drop-append_seam words more) ∙ take-length more
 
 pub word_more : (words more : List ℕ) (f : Form) → HasWord words f → HasWord (words ++ more) f
 word_more words more f there = grind (arith, cut_more, length-append)

@@ -1,7 +1,6 @@
 -- A room of a session before its first step.
-use Rattle.std.proofs.Common.{◌≡◌, ℕ, ◌≤◌, List, [], length, map, arith}
+use Rattle.std.proofs.Common.{◌≡◌, ℕ, ◌≤◌, List, [], length, arith}
 use Rattle.std.specs.Prelude.{slice_index_or}
-use Rattle.std.proofs.lemmas.List.{length-map}
 use Rattle.mps_machine.specs.Machine.{initial}
 use Rattle.mps_room.specs.Private.Narrow.{Narrow}
 use Rattle.mps_room.specs.Private.Rooms.{IsRoom}

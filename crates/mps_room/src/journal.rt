@@ -2,6 +2,7 @@
 ghost use Rattle.std.specs.Prelude.{◌≡◌, ℕ, ◌+◌, ◌*◌, ◌<◌, ◌≤◌, ◌^◌, ◌++◌, ◌∷◌, [], true, None, Ok, length, map, slice_get};
 ghost use Rattle.std.specs.Prelude.{vec_len, vec_capacity, IfOk, OnOk};
 ghost use Rattle.std.specs.Option.{option_map};
+ghost use Rattle.mps_base.specs.Names.{IsName};
 ghost use Rattle.mps_command.specs.declared.command.Command.TheVariants as commands;
 ghost use Rattle.mps_command.specs.declared.command.Forward.TheVariants as steps;
 ghost use Rattle.mps_room.specs.Journal.{most_entries};
@@ -12,14 +13,12 @@ ghost use Rattle.mps_room.specs.Private.Narrow.{message_at, message_of, taken_at
 ghost use Rattle.mps_session.specs.declared.gist.Gist.TheVariants as gists;
 
 use crate::form::{Form, Pair};
-use mps_base::{Message, Role, StepId, Value};
+use mps_base::value::MAX_TEXT;
+use mps_base::{Message, Name, Role, StepId, Value};
 use mps_command::{Answer, Command, Done, Forward, StepIds};
 use mps_session::Gist;
 use std::alloc::{AllocError, Global};
 use std::marker::Model;
-
-// How many bytes the name or the text of an entry has at most.
-const MAX_WORD: usize = 256;
 
 /// The entries of a journal, in 16 bytes each, with the bytes of all their names and texts one after the other, and the
 /// lists of what rollbacks and returns took back. A journal is mostly written, so an entry is made only for whoever asks
@@ -76,8 +75,8 @@ impl Journal {
         if self.forms.len() == self.forms.capacity() {
             self.forms.reserve(1)?;
         }
-        if self.words.capacity() - self.words.len() < MAX_WORD {
-            self.words.reserve(MAX_WORD)?;
+        if self.words.capacity() - self.words.len() < MAX_TEXT {
+            self.words.reserve(MAX_TEXT)?;
         }
         Ok(())
     }
@@ -233,12 +232,11 @@ fn form_of(
         },
         Command::Back(mark) => match gist {
             Gist::TookBack(ids) => {
-                let bytes = mark.as_bytes();
+                let (size, start) = keep_name(words, mark);
                 Form::WentBack {
                     role: by,
-                    // a name has at most 32 bytes
-                    size: bytes.len() as u8,
-                    start: keep_word(words, bytes),
+                    size,
+                    start,
                     list: keep_list(lists, ids),
                 }
             }
@@ -274,23 +272,23 @@ fn form_of_step(
     match step {
         Forward::Send { to, value } => form_of_send(words, Pair::of(role, *to), value, id),
         Forward::Choose { to, label } => {
-            let bytes = label.as_bytes();
+            let (size, start) = keep_name(words, label);
             Form::Chose {
                 pair: Pair::of(role, *to),
-                size: bytes.len() as u8,
+                size,
                 id,
-                start: keep_word(words, bytes),
+                start,
             }
         }
         Forward::Receive { from, slot } => {
-            let bytes = slot.as_bytes();
+            let (size, start) = keep_name(words, slot);
             Form::Received {
                 pair: Pair::of(role, *from),
-                size: bytes.len() as u8,
+                size,
                 id,
                 // the clause `such` says that there is one, as below
                 place: sent_at.unwrap(),
-                start: keep_word(words, bytes),
+                start,
             }
         }
         Forward::Pick { from } => Form::Picked {
@@ -299,12 +297,12 @@ fn form_of_step(
             place: sent_at.unwrap(),
         },
         Forward::Mark { name } => {
-            let bytes = name.as_bytes();
+            let (size, start) = keep_name(words, name);
             Form::Marked {
                 role: role.index() as u8,
-                size: bytes.len() as u8,
+                size,
                 id,
-                start: keep_word(words, bytes),
+                start,
             }
         }
         Forward::Commit => Form::Committed {
@@ -348,6 +346,21 @@ fn form_of_send(words: &mut Vec<u8>, pair: Pair, value: &Value, id: u32) -> Form
             }
         }
     }
+}
+
+// Appends the bytes of a name, for which memory was reserved, and gives how many there are and their place.
+#[inline(always)]
+fn keep_name(words: &mut Vec<u8>, name: &Name) -> (u8, u32)
+    requires space { vec_len words.old + 256 ≤ vec_capacity words.old }
+    requires few { vec_len words.old < 2 ^ 32 }
+    ensures words { words.new.items ≡ words.old.items ++ name.now }
+    ensures size { result.0 ≡ length name.now }
+    ensures start { result.1 ≡ length words.old.items }
+    ensures name { IsName name.now }
+{
+    let bytes = name.as_bytes();
+    // a name has at most 32 bytes
+    (bytes.len() as u8, keep_word(words, bytes))
 }
 
 // Appends the bytes of a name or a text, for which memory was reserved, and gives their place.

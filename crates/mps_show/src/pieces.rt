@@ -6,11 +6,9 @@ ghost use Rattle.serde_json.specs.Written.{compact_text};
 
 use itoa::write_digits;
 use mps_base::Name;
+use mps_base::name::MAX_NAME;
 use std::alloc::AllocError;
 use std::marker::Model;
-
-// How many bytes `Name::padded` gives.
-const MAX_NAME: usize = 32;
 
 // How many digits a number has at most.
 const MAX_DIGITS: usize = 20;

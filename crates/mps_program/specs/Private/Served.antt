@@ -1,5 +1,5 @@
 -- What a sink took, and how the serving itself may fail.
-use Rattle.std.specs.Prelude.{◌≡◌, ⊤, ℕ, List, Option}
+use Rattle.std.specs.Prelude.{⊤, ℕ, List, Option}
 use Rattle.std.specs.Io.KnownBytes.{Appends}
 use Rattle.mps_hub.specs.declared.server.ServeFault.{ServeFault}
 use Rattle.mps_hub.specs.declared.server.ServeFault.TheVariants.{Accept as NotAccepted, Memory as OutOfMemory, NoneLeft, Unrecorded}

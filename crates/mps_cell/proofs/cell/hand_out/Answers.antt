@@ -1,5 +1,5 @@
 -- `hand_out` keeps what holds in each turn of its loop and may call `split_seat` and `fresh`, by the lemmas of Dealing.
-use Rattle.std.proofs.Common.{rules, arith, false, ap, sym, ◌≡◌, ◌∙◌, ℕ, List, ◌∷◌, [], ◌++◌, ◌+◌, ◌-◌, ◌<◌, length, append_assoc, length-append}
+use Rattle.std.proofs.Common.{rules, arith, false, ap, sym, ◌≡◌, ◌∙◌, ℕ, List, ◌∷◌, [], ◌++◌, ◌+◌, ◌-◌, length, append_assoc, length-append}
 use Rattle.std.specs.Vec.Iter.{into_iter_items}
 use Rattle.atomic_table.specs.Table.{Me}
 use Rattle.mps_room.specs.RoomState.{RoomState}

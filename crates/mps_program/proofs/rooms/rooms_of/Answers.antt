@@ -1,5 +1,5 @@
 -- `rooms_of` keeps what holds in each turn of its loop.
-use Rattle.std.proofs.Common.{◌≡◌, List, sym, subst, arith}
+use Rattle.std.proofs.Common.{List, sym, subst, arith}
 use Rattle.std.specs.Prelude.{All, map}
 use Rattle.std.proofs.lemmas.List.Elements.{All-push}
 use Rattle.mps_local.specs.Local.{plain}

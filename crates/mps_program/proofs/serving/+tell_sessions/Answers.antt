@@ -1,5 +1,5 @@
 -- `tell_sessions` meets its clauses `told` and `lost`, by the lemmas of Telling.
-use Rattle.std.proofs.Common.{◌≡◌, ℕ, ◌+◌, ◌∷◌, Option, Some, OnOk, IfErr, refl, sym, ap, ◌∙◌, subst}
+use Rattle.std.proofs.Common.{ℕ, ◌+◌, ◌∷◌, Option, Some, OnOk, IfErr, refl, sym, ap, ◌∙◌, subst}
 use Rattle.mps_room.specs.RoomState.{RoomState}
 use Rattle.mps_program.specs.Served.{AreLinesUpTo, AreSessionLines, IfLost, IsSessionLine, served_of}
 use Rattle.mps_program.specs.Private.Served.{TookOne}

@@ -1,5 +1,5 @@
 -- Where a number is the last one, the answer that `call_numbered` leaves as kept is its own.
-use Rattle.std.proofs.Common.{sym, ◌∙◌, refl}
+use Rattle.std.proofs.Common.{◌∙◌, refl}
 use Rattle.mps_room.proofs.caller.call_numbered.Goals as goal
 
 pub returns-in-Last : goal.returns-in-Last

@@ -1,5 +1,5 @@
 -- A command of `Held::call_next` is called; what is accepted is kept under its number, and what is refused changes no number.
-use Rattle.std.proofs.Common.{◌≡◌, ◌+◌, Some, sym, ap, subst}
+use Rattle.std.proofs.Common.{◌≡◌, Some, sym, ap, subst}
 use Rattle.mps_room.specs.Numbers.{last_of, kept_of}
 use Rattle.mps_room.specs.declared.numbers.Numbered.{Numbered}
 use Rattle.mps_cell.specs.Calls.{Known, Calls, carried}

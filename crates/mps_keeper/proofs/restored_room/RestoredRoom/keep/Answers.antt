@@ -2,7 +2,6 @@
 use Rattle.std.proofs.Common.{ℕ, Option, ap, sym, ◌∙◌}
 use Rattle.std.specs.Prelude.{slice_set}
 use Rattle.mps_room.specs.Numbers.{newest_of}
-use Rattle.mps_room.specs.declared.numbers.Numbered.{Numbered}
 use Rattle.mps_keeper.specs.Restored.{kept_after}
 use Rattle.mps_keeper.proofs.Restoring.{newest_set}
 use Rattle.mps_keeper.proofs.restored_room.RestoredRoom.keep.Goals as goal

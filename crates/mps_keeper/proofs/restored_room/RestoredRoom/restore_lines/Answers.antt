@@ -1,5 +1,5 @@
 -- `RestoredRoom::restore_lines` meets its clause `err` and keeps what holds in each turn of its loop, by the lemmas of Restoring.
-use Rattle.std.proofs.Common.{◌∙◌, length, inl}
+use Rattle.std.proofs.Common.{◌∙◌, inl}
 use Rattle.mps_local.proofs.Each.{passed_on}
 use Rattle.mps_keeper.specs.Restored.{standing_of}
 use Rattle.mps_keeper.specs.RestoredFaults.{IsFaultOf}

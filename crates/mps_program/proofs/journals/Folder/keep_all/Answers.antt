@@ -1,5 +1,5 @@
 -- `Folder::keep_all` meets its clause `refused` where it fails, and keeps what holds in each turn of its loop, by the lemmas of Causes.
-use Rattle.std.proofs.Common.{◌≡◌, ◌+◌, List, Option, length, ap, ◌∙◌, arith}
+use Rattle.std.proofs.Common.{◌≡◌, ◌+◌, length, ap, ◌∙◌, arith}
 use Rattle.std.specs.Vec.Iter.{into_iter_items}
 use Rattle.mps_program.proofs.Causes.{refused_on}
 use Rattle.mps_program.proofs.journals.Folder.keep_all.Goals as goal

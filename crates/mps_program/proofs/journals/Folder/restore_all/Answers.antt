@@ -1,5 +1,5 @@
 -- `Folder::restore_all` meets its clause `refused` where it fails, and keeps what holds in each turn of its loop, by the lemmas of Causes.
-use Rattle.std.proofs.Common.{◌≡◌, List, sym, ◌∙◌, subst, arith}
+use Rattle.std.proofs.Common.{List, sym, ◌∙◌, subst, arith}
 use Rattle.std.specs.Prelude.{All, map}
 use Rattle.std.proofs.lemmas.List.Elements.{All-push}
 use Rattle.mps_local.specs.Local.{plain}

@@ -1,7 +1,7 @@
 -- `Journal::push` meets its contract, and keeps the invariant of its type, by the lemmas of Forms.
-use Rattle.std.proofs.Common.{◌≡◌, ◌++◌, ◌∷◌, [], ◌≤◌, ◌+◌, ℕ, List, length, map, ap, ◌∙◌, sym, subst, arith, length-append}
+use Rattle.std.proofs.Common.{◌++◌, ◌∷◌, [], ◌≤◌, ◌+◌, ℕ, List, length, map, ap, ◌∙◌, sym, subst, arith, length-append}
 use Rattle.std.proofs.lemmas.List.{length-map}
-use Rattle.mps_room.specs.Private.Forms.{lists_of, narrow_in, word_of, AreForms, HasWord, HasList, Kept}
+use Rattle.mps_room.specs.Private.Forms.{lists_of, word_of, AreForms, HasWord, HasList}
 use Rattle.mps_room.specs.declared.form.Form.{Form}
 use Rattle.mps_room.proofs.Forms as forms
 use Rattle.mps_room.proofs.journal.Journal.push.Goals as goal

@@ -1,8 +1,8 @@
 -- `Room::news` may call `news`, by the lemmas of Telling.
-use Rattle.std.proofs.Common.{◌≡◌, List, ap, sym, ◌∙◌, arith, inl, inr}
+use Rattle.std.proofs.Common.{◌≡◌, sym, ◌∙◌, arith, inl, inr}
 use Rattle.std.proofs.lemmas.Bool.{cases_lt}
 use Rattle.mps_room.specs.Private.Heard.{places}
-use Rattle.mps_room.specs.Private.Narrow.{Narrow, journal_of}
+use Rattle.mps_room.specs.Private.Narrow.{journal_of}
 use Rattle.mps_room.proofs.Telling.{nobody}
 use Rattle.mps_room.proofs.room.Room.news.Goals as goal
 
