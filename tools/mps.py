@@ -116,7 +116,9 @@ VERBOSE = ("-v", "--verbose")  # by which the program says more
 def help_text(is_installed):
     """What --help says, without what only the repository can do where a package put mps."""
     left_out = rf"(?m)^mps ({'|'.join(BUILDING)}) .*\n( .*\n)*|^The proved program runs (.+\n)*\n"
-    return re.sub(left_out, "", __doc__) if is_installed else __doc__
+    if not is_installed:
+        return __doc__
+    return re.sub(left_out, "", __doc__).replace("api, install, library and package", "api and install")
 
 
 def asks_for_help(words):
