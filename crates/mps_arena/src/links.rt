@@ -111,7 +111,8 @@ pub(crate) fn join(nodes: &mut Slab<Node>, key: Key, node: Node)
 }
 
 /// Removes a node that is the last of its role, links its neighbours to each other, and frees its send to be received
-/// again. Its key is the next that is given. O(1). Apart for its proof, and inlined, so that no node is copied.
+/// again. Its key is the next that is given. O(1). Apart for its proof, and inlined, so that the node needn't be
+/// copied to the caller.
 #[inline(always)]
 pub(crate) fn part(nodes: &mut Slab<Node>, key: Key) -> Node
     requires { ContainsKey nodes.old key }

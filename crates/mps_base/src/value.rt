@@ -164,7 +164,6 @@ impl Value {
 
     /// A copy that shares nothing with the value. Only a text allocates, at most 256 bytes; it fails only when out of
     /// memory.
-    #[inline(always)]
     pub fn copy(&self, alloc: Global) -> Result<Value, AllocError>
         ensures { IfOk result (λ value. value ≡ self.now) }
     {

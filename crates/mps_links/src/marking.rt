@@ -14,9 +14,9 @@ use crate::pending::{Pending, unmarked_next};
 use mps_arena::{Arena, Key, steps_are_sound};
 use mps_base::{Role, StepId};
 
-/// Marks the step of that number and all that depend on it, its causal future, and returns how many. It goes along
-/// one role's steps, then along those of each role that received from them, and does not allocate. Unproved: O(marked
-/// steps), it looks at none that it doesn't mark.
+/// Marks the step of that number and all that depend on it, its causal future, and returns how many. It goes along the
+/// role's steps from that one on, then along those of each other role from its first receipt of a marked send on, and does
+/// not allocate. Unproved: O(marked steps), it looks at none that it doesn't mark.
 pub fn mark_from(arena: &mut Arena, id: StepId) -> usize
     requires present { IsSome (step_of (steps arena.old.keyed_steps) id) }
     requires unmarked { marked_keys arena.old.keyed_steps ≡ [] }

@@ -165,12 +165,12 @@ impl Room {
     /// Answers a command that asks for a change. Memory for the entry is reserved first, then the session changes, then
     /// the entry is stored: so what is accepted is always in the journal, and a refusal changes nothing.
     #[inline(always)]
-    pub(crate) fn change(&mut self, role: Role, command: &Command) -> Answer
+    pub(crate) fn change(&mut self, role: Role, command: Command) -> Answer
         requires role { role < length self.old.types }
-        requires change { IsSome (change_of command.now) }
+        requires change { IsSome (change_of command) }
         ensures answer { MayAnswer result
-            (answer_to self.old.names self.old.types self.old.journal role command.now) }
-        ensures journal { self.new.journal ≡ grown self.old.journal role command.now result }
+            (answer_to self.old.names self.old.types self.old.journal role command) }
+        ensures journal { self.new.journal ≡ grown self.old.journal role command result }
         ensures names { self.new.names ≡ self.old.names }
         ensures types { self.new.types ≡ self.old.types }
     {
@@ -179,11 +179,11 @@ impl Room {
             &mut self.steps,
             &mut self.heard,
             role,
-            command,
+            &command,
         ) {
-            return Answer::Refused(self.refused(role, command, lack));
+            return Answer::Refused(self.refused(role, &command, lack));
         }
-        match self.session.attempt(role, command) {
+        match self.session.attempt(role, &command) {
             Ok((answer, gist)) => {
                 // nothing fails here: memory is reserved
                 keep(
@@ -191,7 +191,7 @@ impl Room {
                     &mut self.steps,
                     &mut self.heard,
                     role,
-                    command,
+                    &command,
                     gist,
                 );
                 answer

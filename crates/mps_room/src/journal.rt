@@ -348,7 +348,8 @@ fn form_of_send(words: &mut Vec<u8>, pair: Pair, value: &Value, id: u32) -> Form
     }
 }
 
-// Appends the bytes of a name, for which memory was reserved, and gives how many there are and their place.
+// Appends the bytes of a name, for which memory was reserved, and gives how many there are and their place. The clause
+// `name` is for its callers' proofs: how many there are fits a byte.
 #[inline(always)]
 fn keep_name(words: &mut Vec<u8>, name: &Name) -> (u8, u32)
     requires space { vec_len words.old + 256 ≤ vec_capacity words.old }

@@ -172,11 +172,11 @@ impl Room {
         ensures names { self.new.names ≡ self.old.names }
         ensures types { self.new.types ≡ self.old.types }
     {
-        match &command {
-            Command::News(known) => self.answer_news(role, *known),
+        match command {
+            Command::News(known) => self.answer_news(role, known),
             Command::Show => self.answer_show(),
             Command::Stand => self.answer_stand(role),
-            _ => self.change(role, &command),
+            _ => self.change(role, command),
         }
     }
 

@@ -1,5 +1,5 @@
 //! The numbers of a role's steps, which are collected while the history is written.
-ghost use Rattle.std.specs.Prelude.{◌≡◌, ◌∷◌, ◌++◌, [], ℕ, List, IfOk, OnOk, replicate, drop};
+ghost use Rattle.std.specs.Prelude.{◌≡◌, ◌∷◌, ◌++◌, [], IfOk, OnOk, replicate, drop};
 
 use crate::pieces::Decimal;
 use std::alloc::{AllocError, Global};

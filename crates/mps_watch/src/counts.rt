@@ -83,8 +83,14 @@ impl Tally {
         let place = words
             .iter()
             .position(|known| known.as_bytes() == word)
-            .unwrap_or(words.len())
-            .min(SHARE - 1);
+            .unwrap_or(words.len());
+        self.add_at(connection, place);
+    }
+
+    /// Counts the word at this place of those of the tally, or all others where there is none, for a connection of that number.
+    #[inline(always)]
+    pub fn add_at(&self, connection: u64, place: usize) {
+        let place = place.min(SHARE - 1);
         let share = (connection % SHARES as u64) as usize;
         if let Some(count) = self.counts.get(share * SHARE + place) {
             count.add(1);
@@ -125,6 +131,9 @@ const JOINS: &[&str] = &[
     "elsewhere",
     "memory",
 ];
+
+/// The place of `done` among the words of answers to lines.
+pub const DONE: usize = 0;
 
 // The words of answers to other lines, the most frequent ones first.
 const LINES: &[&str] = &[

@@ -1,6 +1,6 @@
 //! What goes through one connection, as it is watched.
 
-use crate::counts::word_of;
+use crate::counts::{DONE, word_of};
 use crate::watch::{Ended, Watch};
 use memchr::memchr;
 use mps_base::read_number;
@@ -40,9 +40,9 @@ pub struct Ear<'w, R> {
     watch: &'w Watch,
     connection: u64,
     side: Side,
-    // the front of the line that goes through
+    // the front of the line that goes through; its memory is kept for the next that comes in pieces
     line: Vec<u8>,
-    // whether the first went through
+    // whether the first went through, which isn't known of lines that aren't told
     begun: bool,
     // the client's first line, where it is known before its answer
     asked: Vec<u8>,
@@ -79,8 +79,7 @@ impl<'w, R: Eprint> Ear<'w, R> {
 
     /// These bytes went through, after those before them.
     pub fn hear(&mut self, bytes: &[u8]) {
-        // lines of a client are told, and not counted
-        if self.side == Side::Lines && !self.watch.tells_lines() {
+        if !self.watch.tells_lines() && self.hear_untold(bytes) {
             return;
         }
         let mut rest = bytes;
@@ -92,6 +91,22 @@ impl<'w, R: Eprint> Ear<'w, R> {
             let (piece, more) = rest.split_at(end);
             self.end_line(piece);
             rest = &more[1..];
+        }
+    }
+
+    // Hears these bytes where lines aren't told, if it takes no more than a look, and gives whether it did: nothing is to be
+    // done with a client's lines, and an answer to a step, as most answers are, is counted at once where it comes by itself.
+    #[inline(always)]
+    fn hear_untold(&self, bytes: &[u8]) -> bool {
+        match self.side {
+            Side::Lines => true,
+            Side::Answers => {
+                let done = self.begun && self.line.is_empty() && is_done(bytes);
+                if done {
+                    self.watch.counts.lines.add_at(self.connection, DONE);
+                }
+                done
+            }
         }
     }
 
@@ -179,6 +194,14 @@ impl<'w, R: Eprint> Ear<'w, R> {
             ),
             None => self.watch.went(self.rt, self.connection, why),
         }
+    }
+}
+
+// Whether these bytes are one line that says that a step was done.
+fn is_done(bytes: &[u8]) -> bool {
+    match bytes {
+        [b'd', b'o', b'n', b'e', b' ', rest @ .., b'\n'] => !rest.contains(&b'\n'),
+        _ => false,
     }
 }
 

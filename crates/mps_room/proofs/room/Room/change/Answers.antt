@@ -26,13 +26,13 @@ use Rattle.mps_room.proofs.room.Room.change.Goals.{After-keep}
 
 -- the change that is asked for, and what the session says of it
 abbrev change_in : After-keep → Change
-change_in c = (asked c.args.command.now c.requires.change).0
+change_in c = (asked c.args.command c.requires.change).0
 
-is_asked : (c : After-keep) → c.args.command.now ≡ command_of (change_in c)
-is_asked c = (asked c.args.command.now c.requires.change).2
+is_asked : (c : After-keep) → c.args.command ≡ command_of (change_in c)
+is_asked c = (asked c.args.command c.requires.change).2
 
 served : (c : After-keep) → IsChanged c.self.inside.session.types c.args.role (change_in c) (Ok c.in-Ok.answer) c.self.inside.session.state c.attempt.new.self.state
-served c = c.in-Ok.ensures.accepted (change_in c) (asked c.args.command.now c.requires.change).1
+served c = c.in-Ok.ensures.accepted (change_in c) (asked c.args.command c.requires.change).1
 
 -- the answer is the machine's, and accepts
 answered : (c : After-keep) → c.in-Ok.answer ≡ (serve c.self.inside.session.types c.self.inside.session.state c.args.role (change_in c)).0
@@ -47,10 +47,10 @@ known : (c : After-keep) → c.args.role < length c.self.inside.session.types
 known c = subst (λ (m : RoomState). c.args.role < length m.types) (sym c.self.view_is) c.requires.role
 
 -- the entry joins the journal
-joined : (c : After-keep) → c.keep.new.journal.entries ≡ c.self.inside.journal.entries ++ narrow c.args.role c.args.command.now c.in-Ok.gist (source_place c.self.inside.steps.places.items c.in-Ok.gist) ∷ []
+joined : (c : After-keep) → c.keep.new.journal.entries ≡ c.self.inside.journal.entries ++ narrow c.args.role c.args.command c.in-Ok.gist (source_place c.self.inside.steps.places.items c.in-Ok.gist) ∷ []
 joined c =
     let gist = c.in-Ok.gist in
-    let entry_by = λ (ps : List ℕ). narrow c.args.role c.args.command.now gist (source_place ps gist) in
+    let entry_by = λ (ps : List ℕ). narrow c.args.role c.args.command gist (source_place ps gist) in
     c.keep.ensures.journal
     ∙ ap (λ (l : List Narrow). l ++ entry_by c.reserve_entry.new.steps.places.items ∷ []) c.reserve_entry.ensures.journal
     ∙ ap (λ (ps : List ℕ). c.self.inside.journal.entries ++ entry_by ps ∷ []) c.reserve_entry.ensures.places
@@ -62,7 +62,7 @@ invariant_of-self-in-Ok c =
     let told = c.in-Ok in
     let room = c.reserve_entry.ensures in
     let hear = λ (owners : List ℕ) (q : ℕ). hears (owns owners q) q c.args.role (undone_by (narrow_answer told.gist)) in
-    keeping.kept_as r.names r.session r.steps.owners.items r.steps.places.items r.heard.count (map (λ v. v.items) r.heard.lists) r.journal.entries c.self.invariant c.args.role (known l) (change_in l) told.answer (answered l) (kept l) c.in_default.ensures.few c.args.command.now (is_asked l)
+    keeping.kept_as r.names r.session r.steps.owners.items r.steps.places.items r.heard.count (map (λ v. v.items) r.heard.lists) r.journal.entries c.self.invariant c.args.role (known l) (change_in l) told.answer (answered l) (kept l) c.in_default.ensures.few c.args.command (is_asked l)
     told.gist told.ensures.kind told.ensures.sent told.ensures.gist
     c.attempt.new.self c.keep.new.steps.owners.items c.keep.new.steps.places.items c.keep.new.heard.count (map (λ v. v.items) c.keep.new.heard.lists) c.keep.new.journal.entries told.ensures.types (served l).state
     (c.keep.ensures.owners ∙ ap (λ (o : List ℕ). owners_after o c.args.role (narrow_answer told.gist)) room.owners)
@@ -86,11 +86,11 @@ pub keep-requires-clause-fits : goal.keep-requires-clause-fits
 keep-requires-clause-fits c =
     let r = c.self.inside in
     let told = c.in-Ok in
-    let found = asked c.args.command.now c.requires.change in
+    let found = asked c.args.command c.requires.change in
     let served = told.ensures.accepted found.0 found.1 in
     keeping.fits r.names r.session r.steps.owners.items r.steps.places.items r.heard.count (map (λ v. v.items) r.heard.lists) r.journal.entries c.self.invariant c.args.role
     (subst (λ (m : RoomState). c.args.role < length m.types) (sym c.self.view_is) c.requires.role)
-    found.0 told.answer (from_ok told.answer _ served.answer) (accepting r.session.types r.session.state c.args.role found.0 told.answer served.answer) c.in_default.ensures.few c.args.command.now found.2
+    found.0 told.answer (from_ok told.answer _ served.answer) (accepting r.session.types r.session.state c.args.role found.0 told.answer served.answer) c.in_default.ensures.few c.args.command found.2
     told.gist told.ensures.kind told.ensures.sent told.ensures.gist c.reserve_entry.new.steps.places.items c.reserve_entry.ensures.places
 
 pub returns-in-Ok-clause-answer : goal.returns-in-Ok-clause-answer
@@ -99,10 +99,10 @@ returns-in-Ok-clause-answer c =
     let r = c.self.inside in
     let told = c.in-Ok in
     let is =
-    keeping.answered_as r.names r.session r.steps.owners.items r.steps.places.items r.heard.count (map (λ v. v.items) r.heard.lists) r.journal.entries c.self.invariant c.args.role (known l) (change_in l) told.answer (answered l) (kept l) c.in_default.ensures.few c.args.command.now (is_asked l)
+    keeping.answered_as r.names r.session r.steps.owners.items r.steps.places.items r.heard.count (map (λ v. v.items) r.heard.lists) r.journal.entries c.self.invariant c.args.role (known l) (change_in l) told.answer (answered l) (kept l) c.in_default.ensures.few c.args.command (is_asked l)
     told.gist told.ensures.kind told.ensures.sent told.ensures.gist
     in
-    subst (λ (m : RoomState). MayAnswer told.answer (answer_to m.names m.types m.journal c.args.role c.args.command.now)) c.self.view_is
+    subst (λ (m : RoomState). MayAnswer told.answer (answer_to m.names m.types m.journal c.args.role c.args.command)) c.self.view_is
     (subst (λ (w : Answer). MayAnswer told.answer w) (sym is) (accepted_answer told.answer (kept l)))
 
 pub returns-in-Ok-clause-journal : goal.returns-in-Ok-clause-journal
@@ -110,15 +110,15 @@ returns-in-Ok-clause-journal c =
     let l = (goal.at.returns-in-Ok-clause-journal c).After-keep in
     let r = c.self.inside in
     let told = c.in-Ok in
-    keeping.grown_as r.names r.session r.steps.owners.items r.steps.places.items r.heard.count (map (λ v. v.items) r.heard.lists) r.journal.entries c.self.invariant c.args.role (known l) (change_in l) told.answer (answered l) (kept l) c.in_default.ensures.few c.args.command.now (is_asked l)
+    keeping.grown_as r.names r.session r.steps.owners.items r.steps.places.items r.heard.count (map (λ v. v.items) r.heard.lists) r.journal.entries c.self.invariant c.args.role (known l) (change_in l) told.answer (answered l) (kept l) c.in_default.ensures.few c.args.command (is_asked l)
     told.gist told.ensures.kind told.ensures.sent told.ensures.gist c.keep.new.journal.entries (joined l)
-    ∙ ap (λ (m : RoomState). grown m.journal c.args.role c.args.command.now told.answer) c.self.view_is
+    ∙ ap (λ (m : RoomState). grown m.journal c.args.role c.args.command told.answer) c.self.view_is
 
-pub returns-in-Err-attempt-clause-answer : goal.returns-in-Err-attempt-clause-answer
-returns-in-Err-attempt-clause-answer c =
+pub returns-clause-answer : goal.returns-clause-answer
+returns-clause-answer c =
     let r = c.self.inside in
-    let found = asked c.args.command.now c.requires.change in
+    let found = asked c.args.command c.requires.change in
     let refusal = c.in-Err-attempt.refusal in
-    subst (λ (m : RoomState). MayAnswer (Refused refusal) (answer_to m.names m.types m.journal c.args.role c.args.command.now)) c.self.view_is
-    (consistency.refused_as r.names r.session r.steps.owners.items r.heard.count (map (λ v. v.items) r.heard.lists) (journal_of r.journal.entries) c.self.invariant.consistent c.args.role found.0 c.args.command.now found.2
+    subst (λ (m : RoomState). MayAnswer (Refused refusal) (answer_to m.names m.types m.journal c.args.role c.args.command)) c.self.view_is
+    (consistency.refused_as r.names r.session r.steps.owners.items r.heard.count (map (λ v. v.items) r.heard.lists) (journal_of r.journal.entries) c.self.invariant.consistent c.args.role found.0 c.args.command found.2
     (subst (λ (n : ℕ). n < most_entries) (sym (length-map r.journal.entries (whole r.journal.entries))) c.in_default.ensures.few) c.attempt.new.self.state refusal (c.in-Err-attempt.ensures.accepted found.0 found.1))
