@@ -89,7 +89,7 @@ impl Tally {
 
     /// Counts the word at this place of those of the tally, or all others where there is none, for a connection of that number.
     #[inline(always)]
-    pub fn add_at(&self, connection: u64, place: usize) {
+    pub(crate) fn add_at(&self, connection: u64, place: usize) {
         let place = place.min(SHARE - 1);
         let share = (connection % SHARES as u64) as usize;
         if let Some(count) = self.counts.get(share * SHARE + place) {
@@ -133,7 +133,7 @@ const JOINS: &[&str] = &[
 ];
 
 /// The place of `done` among the words of answers to lines.
-pub const DONE: usize = 0;
+pub(crate) const DONE: usize = 0;
 
 // The words of answers to other lines, the most frequent ones first.
 const LINES: &[&str] = &[
