@@ -36,26 +36,31 @@ fn nanoseconds() -> u64 {
 }
 
 /// A session's journal, to be written to, by `OverWrite`, which counts failures. Once the file has no name any more a write
-/// fails, since nobody would find what it has: the next one, or, where it was said so, one of the next `LOOK`. Before the
-/// first write it is noted that the session has begun, where that is due. Where each write is stored at once, one that isn't
-/// fails.
+/// fails, since nobody would find what it has: the next one where each is synced, else one of the next `LOOK`, and the first
+/// that comes `PAUSE` after the last look. Before the first write it is noted that the session has begun, where that is due.
+/// Where each write is stored at once, one that isn't fails.
 #[derive(Drop)]
 pub struct JournalFile {
     file: Arc<OwnFile, Global>,
     newest: NewestError,
     note: Option<Note>,
     stores: bool,
-    // at each how many'th write the names are looked at, and how many are left until then
-    every: u64,
+    // whether the names are looked at at each write; else how many are left until one looks, and when one looks in any case
+    looks: bool,
     left: u64,
+    due: u64,
     // whether the disk has stored its name
     named: AtomicBool,
     // who counts what is written
     watch: Option<Arc<Watch, Global>>,
 }
 
-/// At each how many'th write the names of a file are looked at that isn't stored at once: a look takes as long as a write.
+/// Of so many writes in a row at least one looks at the names of its file, where not each is synced. A look at each would take
+/// longer than the write: where the system keeps exact times, those that it was asked for are stored anew by the next write.
 pub const LOOK: u64 = 64;
+
+/// So many nanoseconds after the last look a write looks in any case.
+pub const PAUSE: u64 = 10_000_000;
 
 /// That a session has begun, for the folder's file `sessions`; and the folder, where both are synced.
 #[derive(Drop)]
@@ -164,8 +169,9 @@ pub fn parted(
         newest: Arc::try_clone(&newest)?,
         note,
         stores: false,
-        every: 1,
+        looks: about.sync,
         left: 0,
+        due: 0,
         named: AtomicBool::new(true),
         watch: None,
     };
@@ -183,15 +189,16 @@ pub fn parted(
 
 impl JournalFile {
     /// The file, for one writer. Each write is stored before it counts, where that is said, of a file whose name the disk has
-    /// stored; else the names are looked at at each `LOOK`'th write.
+    /// stored.
     pub fn new(alloc: Global, file: Arc<OwnFile, Global>, stores: bool) -> io::Result<JournalFile> {
         Ok(JournalFile {
             file,
             newest: Arc::new(alloc, AtomicU64::new(0))?,
             note: None,
             stores,
-            every: if stores { 1 } else { LOOK },
+            looks: stores,
             left: 0,
+            due: 0,
             named: AtomicBool::new(stores),
             watch: None,
         })
@@ -230,11 +237,13 @@ impl JournalFile {
 
     // The same, where it is time for it.
     fn look_at_times(&mut self) -> io::Result<()> {
-        if self.left > 0 {
+        let now = nanoseconds();
+        if !self.looks && self.left > 0 && now < self.due {
             self.left -= 1;
             return Ok(());
         }
-        self.left = self.every.saturating_sub(1);
+        self.left = LOOK - 1;
+        self.due = now.saturating_add(PAUSE);
         self.look()
     }
 

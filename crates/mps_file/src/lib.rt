@@ -15,7 +15,8 @@ pub mod rest;
 
 pub use descriptor::Descriptor;
 pub use journal_file::{
-    About, FileKeeper, JournalDisk, JournalFile, LOOK, Note, Unsynced, held, parted, store_name,
+    About, FileKeeper, JournalDisk, JournalFile, LOOK, Note, PAUSE, Unsynced, held, parted,
+    store_name,
 };
 pub use own_file::OwnFile;
 pub use recorder::RecorderStream;

@@ -199,10 +199,7 @@ impl<'w, R: Eprint> Ear<'w, R> {
 
 // Whether these bytes are one line that says that a step was done.
 fn is_done(bytes: &[u8]) -> bool {
-    match bytes {
-        [b'd', b'o', b'n', b'e', b' ', rest @ .., b'\n'] => !rest.contains(&b'\n'),
-        _ => false,
-    }
+    bytes.starts_with(b"done ") && memchr(b'\n', bytes) == Some(bytes.len() - 1)
 }
 
 // Whom an answer `joined SESSION ROLE` lets in.
